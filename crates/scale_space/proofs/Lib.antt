@@ -1,0 +1,14 @@
+pub mod Ring
+pub mod Sides
+pub mod Walk
+pub mod Windows
+pub mod Pairs
+pub mod Triples
+pub mod Counts
+pub mod Moves
+pub mod Rounding
+pub mod Bounds
+pub mod TurnPlaces
+pub mod CrossingPlaces
+pub mod Ascending
+pub mod Calm

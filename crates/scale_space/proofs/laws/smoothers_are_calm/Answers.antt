@@ -1,0 +1,5 @@
+use Rattle.scale_space.proofs.Calm.{diminishing-smooths}
+use Rattle.scale_space.proofs.laws.smoothers_are_calm.Needs as need
+
+pub returns : need.returns
+returns c = diminishing-smooths

@@ -1,0 +1,13 @@
+pub mod Signs
+pub mod Taps
+pub mod Turns
+pub mod Crossings
+pub mod Places
+pub mod Rounding
+pub mod Levels
+pub mod Divisors
+pub mod Passes
+pub mod Primes
+pub mod Tables
+pub mod Laws
+pub mod Equality

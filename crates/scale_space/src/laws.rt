@@ -1,0 +1,42 @@
+//! Theorems about the definitions alone. Each stands in the contract of a function that does nothing else.
+ghost use mathlib.Core.List.{List, map};
+ghost use mathlib.Core.Path.{_≡_};
+ghost use Prim.Native.Nat.{ℕ, _<_};
+ghost use lib.IntN.{ℤ, _-ℤ_};
+ghost use lib.ListN.{length};
+ghost use Rattle.std.specs.shelf.Lists.{All};
+ghost use Rattle.scale_space.specs.Laws.{Calm};
+ghost use Rattle.scale_space.specs.Levels.{Level, mapped, Calmer, Diminishing, Smooths};
+ghost use Rattle.scale_space.specs.Passes.{Proper};
+ghost use Rattle.scale_space.specs.Rounding.{Rounds};
+ghost use Rattle.scale_space.specs.Signs.{changes, differences};
+ghost use Rattle.scale_space.specs.Turns.{turns};
+ghost use Rattle.scale_space.specs.Crossings.{crossings};
+ghost use Rattle.scale_space.specs.Places.{Turns-are-these, Crossings-are-these, Places-ascend};
+ghost use Rattle.scale_space.specs.declared.passes.Pass.{Pass};
+
+/// The lists of turns and crossings hold exactly the turns and crossings there are, in order of place, and they are as
+/// many as the changes of sign of the differences, and of the samples less the height.
+pub fn counts_are_changes()
+    ensures turns { λ _. ⌜ ((xs : List ℤ) → length (turns xs) ≡ changes (differences xs)) ⌝ }
+    ensures crossings { λ _. ⌜ ((h : ℤ) (xs : List ℤ) → length (crossings h xs) ≡ changes (map (λ x. x -ℤ h) xs)) ⌝ }
+    ensures ridges { λ _. ⌜ Turns-are-these ⌝ }
+    ensures heights { λ _. ⌜ Crossings-are-these ⌝ }
+    ensures ordered { λ _. ⌜ Places-ascend ⌝ }
+{
+}
+
+/// Whatever obeys the law of taps, now or later, alone or piled, adds no turn and no crossing of a whole height at any
+/// scale, and stays between the lowest and the highest sample.
+pub fn smoothers_are_calm()
+    ensures { λ _. ⌜ ((ts : List ℕ) → 0 < length ts → Diminishing ts → Smooths ts) ⌝ }
+{
+}
+
+/// From level to level, and where a level is rounded, neither count rises and all stays between the lowest and the highest
+/// height.
+pub fn levels_are_calm()
+    ensures levels { λ _. ⌜ ((ps : List Pass) → All Proper ps → (hs : List ℤ) → Calm ps hs) ⌝ }
+    ensures roundings { λ _. ⌜ ((l : Level) (r : ℤ → ℤ) → Rounds (l .scale) r → Calmer l (mapped r l)) ⌝ }
+{
+}
