@@ -1,11 +1,12 @@
 //! Theorems about the definitions alone. Each stands in the contract of a function that does nothing else.
 ghost use mathlib.Core.List.{List, map};
 ghost use mathlib.Core.Path.{_≡_};
-ghost use Prim.Native.Nat.{ℕ, _<_};
+ghost use Prim.Native.Nat.{ℕ, _<_, _≤_};
 ghost use lib.IntN.{ℤ, _-ℤ_};
 ghost use lib.ListN.{length};
 ghost use Rattle.std.specs.shelf.Lists.{All};
-ghost use Rattle.scale_space.specs.Laws.{Calm};
+ghost use Rattle.scale_space.specs.Equality.{Equality};
+ghost use Rattle.scale_space.specs.Laws.{Piles, Calm};
 ghost use Rattle.scale_space.specs.Levels.{Level, mapped, Calmer, Diminishing, Smooths};
 ghost use Rattle.scale_space.specs.Passes.{Proper};
 ghost use Rattle.scale_space.specs.Rounding.{Rounds};
@@ -29,7 +30,8 @@ pub fn counts_are_changes()
 /// Whatever obeys the law of taps, now or later, alone or piled, adds no turn and no crossing of a whole height at any
 /// scale, and stays between the lowest and the highest sample.
 pub fn smoothers_are_calm()
-    ensures { λ _. ⌜ ((ts : List ℕ) → 0 < length ts → Diminishing ts → Smooths ts) ⌝ }
+    ensures smooth { λ _. ⌜ ((ts : List ℕ) → 0 < length ts → Diminishing ts → Smooths ts) ⌝ }
+    ensures piled { λ _. ⌜ ((p q : List ℕ) → 0 < length p → 0 < length q → Piles p q) ⌝ }
 {
 }
 
@@ -38,5 +40,12 @@ pub fn smoothers_are_calm()
 pub fn levels_are_calm()
     ensures levels { λ _. ⌜ ((ps : List Pass) → All Proper ps → (hs : List ℤ) → Calm ps hs) ⌝ }
     ensures roundings { λ _. ⌜ ((l : Level) (r : ℤ → ℤ) → Rounds (l .scale) r → Calmer l (mapped r l)) ⌝ }
+{
+}
+
+/// Two schedules have the same prime table exactly when no lawful profile tells them apart: when their last levels always
+/// are the same, and when those levels always agree in length and as fractions.
+pub fn tables_decide()
+    ensures { λ _. ⌜ ((ps qs : List Pass) → length ps ≤ 24 → length qs ≤ 24 → All Proper ps → All Proper qs → Equality ps qs) ⌝ }
 {
 }
