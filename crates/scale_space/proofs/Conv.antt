@@ -7,7 +7,7 @@ use native.Mathlib.Omega.{arith}
 use native.Mathlib.Nat.{mul-le-mul-left, eq-of-mul-eq-mul-left, mul-le-mul-right, suc-sub-suc, sub-zero}
 use lib.ListN.{length, getD, length-map}
 use Rattle.std.proofs.shelf.Tests.{cases-order}
-use Rattle.scale_space.specs.Taps.{plus, scaled, conv, scale}
+use Rattle.scale_space.specs.Taps.{plus, scaled, conv, scale, sum-to}
 
 -- the number with the digits ts in base B, the first one lowest
 abbrev pub val : ℕ → List ℕ → ℕ
@@ -145,11 +145,6 @@ pub conv-scale : (p q : List ℕ) → scale (conv p q) ≡ scale p * scale q
 conv-scale p q = scale-val (conv p q) ∙ val-conv 1 p q ∙ sym (ap₂ _*_ (scale-val p) (scale-val q))
 
 -- ---- tap by tap
--- f 0 + f 1 + .. + f (n - 1)
-abbrev pub sum-to : ℕ → (ℕ → ℕ) → ℕ
-sum-to zero f = 0
-sum-to (suc n) f = f 0 + sum-to n (λ i. f (suc i))
-
 plus-tap : (xs ys : List ℕ) (j : ℕ) → getD (plus xs ys) j 0 ≡ getD xs j 0 + getD ys j 0
 unfolding plus
 plus-tap [] ys j = omega arith

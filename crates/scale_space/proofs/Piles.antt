@@ -19,7 +19,7 @@ use Rattle.scale_space.specs.Passes.{weights, Proper, reach, product, taps, le
 use Rattle.scale_space.specs.Laws.{Piles}
 use Rattle.scale_space.proofs.Ring.{*ℤ-+ℤ, times-times, times-plus}
 use Rattle.scale_space.proofs.Windows.{windows-cons, windows-short, windows-length}
-use Rattle.scale_space.proofs.Conv.{length-conv, conv-comm, conv-scale}
+use Rattle.scale_space.proofs.Conv.{length-conv, conv-comm, conv-scale, conv-tap}
 
 -- ---- taps
 four : (p q r s : ℤ) → (p +ℤ q) +ℤ (r +ℤ s) ≡ (p +ℤ r) +ℤ (q +ℤ s)
@@ -87,6 +87,7 @@ windows-windows (a ∷ p) (b ∷ q) xs h k = turned a p b q xs ∙ ap (λ ts. wi
 -- `conv` piles taps: windows of windows, reach and scale, and the law of taps
 pub taps-pile : (p q : List ℕ) → 0 < length p → 0 < length q → Piles p q
 taps-pile p q h k = record {
+  tapped = conv-tap p q;
   windowed = λ xs. windows-windows p q xs h k;
   reaches = omega (arith, length-conv p q h k);
   scales = conv-scale p q;

@@ -1,7 +1,7 @@
 -- Taps: natural weights laid on neighbouring samples, and how taps are piled.
 use mathlib.Core.List.{List, [], _∷_, map}
 use mathlib.Core.Bool.{cond}
-use Prim.Native.Nat.{ℕ, _+_, _*_}
+use Prim.Native.Nat.{ℕ, zero, suc, _+_, _*_}
 use lib.IntN.{ℤ, pos, _+ℤ_, _*ℤ_}
 use lib.ListN.{length}
 use lib.Dec.{leb}
@@ -36,3 +36,8 @@ plus (s ∷ ss) (t ∷ ts) = (s + t) ∷ plus ss ts
 unfoldable pub conv : List ℕ → List ℕ → List ℕ
 conv [] q = []
 conv (a ∷ p) q = plus (scaled a q) (0 ∷ conv p q)
+
+-- f 0 + f 1 + .. + f (n - 1)
+abbrev pub sum-to : ℕ → (ℕ → ℕ) → ℕ
+sum-to zero f = 0
+sum-to (suc n) f = f 0 + sum-to n (λ i. f (suc i))

@@ -8,7 +8,9 @@ ghost use Rattle.std.specs.shelf.Lists.{All};
 ghost use Rattle.scale_space.specs.Equality.{Equality};
 ghost use Rattle.scale_space.specs.Laws.{Piles, Calm};
 ghost use Rattle.scale_space.specs.Levels.{Level, mapped, Calmer, Diminishing, Smooths};
-ghost use Rattle.scale_space.specs.Passes.{Proper};
+ghost use Rattle.scale_space.specs.Passes.{Proper, taps};
+ghost use Rattle.scale_space.specs.Primes.{primes, Factored};
+ghost use Rattle.scale_space.specs.Tables.{table, Tabulates};
 ghost use Rattle.scale_space.specs.Rounding.{Rounds};
 ghost use Rattle.scale_space.specs.Signs.{changes, differences};
 ghost use Rattle.scale_space.specs.Turns.{turns};
@@ -44,8 +46,11 @@ pub fn levels_are_calm()
 }
 
 /// Two schedules have the same prime table exactly when no lawful profile tells them apart: when their last levels always
-/// are the same, and when those levels always agree in length and as fractions.
+/// are the same, and when those levels always agree in length and as fractions. A prime table lists each prime in order,
+/// with how often it stands; what it lists are primes, and piled they have the schedule's taps.
 pub fn tables_decide()
-    ensures { λ _. ⌜ ((ps qs : List Pass) → length ps ≤ 24 → length qs ≤ 24 → All Proper ps → All Proper qs → Equality ps qs) ⌝ }
+    ensures equality { λ _. ⌜ ((ps qs : List Pass) → length ps ≤ 24 → length qs ≤ 24 → All Proper ps → All Proper qs → Equality ps qs) ⌝ }
+    ensures tables { λ _. ⌜ ((ps : List Pass) → Tabulates (primes ps) (table ps)) ⌝ }
+    ensures primes { λ _. ⌜ ((ps : List Pass) → All Proper ps → Factored (primes ps) (taps ps)) ⌝ }
 {
 }
