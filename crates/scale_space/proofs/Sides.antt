@@ -1,9 +1,9 @@
 -- The signs of sums and multiples, and sides as orders.
-use mathlib.Core.Path.{_≡_, refl, ap}
+use mathlib.Core.Path.{_≡_, refl, ap, _∙_}
 use mathlib.Core.Logic.{_⊎_, inl, inr}
 use Prim.Native.Nat.{ℕ, zero, suc, _+_, _*_, _≤_, _<_}
 use native.Mathlib.Omega.{arith}
-use lib.IntN.{ℤ, pos, negsuc, _+ℤ_, _-ℤ_, _*ℤ_, negℤ, +ℤ-idl, +ℤ-idr}
+use lib.IntN.{ℤ, pos, negsuc, _+ℤ_, _-ℤ_, _*ℤ_, negℤ, +ℤ-idl, +ℤ-idr, +ℤ-invr}
 use lib.Signed.{_≤ℤ_, _<ℤ_}
 use borrow.Author.Differences.{ints, up, down}
 use Rattle.scale_space.specs.Signs.{Sign, below, level, above, sign, side}
@@ -122,6 +122,9 @@ side-under x y e = let h = below-less (x -ℤ y) e in omega (arith, ints)
 
 pub over-side : (x y : ℤ) → y <ℤ x → side x y ≡ above
 over-side x y h = more-above (x -ℤ y) (omega (arith, ints))
+
+pub level-side : (x y : ℤ) → x ≡ y → side x y ≡ level
+level-side x y e = ap (λ z. sign (z -ℤ y)) e ∙ ap sign (+ℤ-invr y)
 
 pub under-side : (x y : ℤ) → x <ℤ y → side x y ≡ below
 under-side x y h = less-below (x -ℤ y) (omega (arith, ints))

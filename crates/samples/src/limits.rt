@@ -1,0 +1,19 @@
+//! What the calls take for a scale and for a height.
+ghost use mathlib.Core.Path.{_≡_};
+ghost use Rattle.samples.specs.Answers.{scale-lawful, height-lawful};
+
+const LARGEST_SCALE: u64 = 1 << 40;
+
+pub const LARGEST_HEIGHT: u64 = 100_000;
+
+pub fn is_scale(scale: u64) -> bool
+    ensures { λ r. ⌜ r ≡ scale-lawful scale ⌝ }
+{
+    1 <= scale && scale <= LARGEST_SCALE
+}
+
+pub fn is_height(height: i64) -> bool
+    ensures { λ r. ⌜ r ≡ height-lawful height ⌝ }
+{
+    height.unsigned_abs() <= LARGEST_HEIGHT
+}
