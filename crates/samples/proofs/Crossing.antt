@@ -35,7 +35,7 @@ from-place above below p v w g cs = refl
 from-place above level p v w g cs = refl
 from-place above above p v w g cs = refl
 
--- from the sample f on
+-- from a sample off the height on, and where there is none before
 one-away : (h : ℤ) (p : ℕ) (v : ℤ) (gs : List Spot) → crossings-of h (spot p v ∷ gs) ≡ crossings-from h (side v h) (spot p h) gs
 unfolding crossings-of crossings-from
 one-away h p v [] = refl

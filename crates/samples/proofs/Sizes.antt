@@ -1,28 +1,24 @@
 -- Numbers that are small enough for 64 bits.
-use mathlib.Core.Path.{_≡_, refl, sym, ap, ap₂, subst, _∙_}
+use mathlib.Core.Path.{_≡_, refl, sym, ap₂, subst, _∙_}
 use mathlib.Core.Bool.{true}
-use Prim.Native.Nat.{ℕ, _+_, _*_, _^_, _≤_, _<_}
-use native.Mathlib.Nat.{le-trans, mul-le-mul-left, mul-le-mul-right}
+use Prim.Native.Nat.{ℕ, _*_, _^_, _≤_}
+use native.Mathlib.Nat.{mul-le-mul-right}
 use native.Mathlib.Omega.{arith}
 use borrow.Author.Differences.{product-is, ints}
-use lib.IntN.{ℤ, pos, negsuc, _+ℤ_, _*ℤ_, natAbs}
+use lib.IntN.{ℤ, pos, negsuc, _*ℤ_, natAbs}
 use mir.Syntax.{w64}
 use mir.Val.{SFits, toZ, ofZ}
 use Rattle.std.proofs.shelf.Signed.{toZ-ofZ, toZ-pos}
 use Rattle.std.proofs.shelf.Tests.{and-parts, leb-true}
 use Rattle.samples.specs.Answers.{scale-lawful, height-lawful}
 
-pub fits-size : (z : ℤ) → natAbs z ≤ 2 ^ 62 → SFits w64 z
+fits-size : (z : ℤ) → natAbs z ≤ 2 ^ 62 → SFits w64 z
 fits-size (pos n) h = record { sfits = omega arith }
 fits-size (negsuc n) h = record { sfits = omega arith }
 
-pub size-times : (x : ℤ) (s : ℕ) → natAbs (x *ℤ pos s) ≡ natAbs x * s
+size-times : (x : ℤ) (s : ℕ) → natAbs (x *ℤ pos s) ≡ natAbs x * s
 size-times (pos n) s = refl
 size-times (negsuc n) s = omega (arith, ints, product-is (negsuc n) (pos s))
-
--- a scale from 1 to 2^40
-pub scale-some : (s : ℕ) → scale-lawful s ≡ true → 1 ≤ s
-scale-some s e = leb-true 1 s (and-parts _ _ e .0)
 
 pub scale-most : (s : ℕ) → scale-lawful s ≡ true → s ≤ 2 ^ 40
 scale-most s e = leb-true s (2 ^ 40) (and-parts _ _ e .1)

@@ -1,6 +1,6 @@
 -- What the calls on samples answer, and what the caller's buffers hold afterwards.
 use mathlib.Core.Bool.{Bool, true, cond, _&&_}
-use mathlib.Core.List.{List, [], _∷_, _++_, map}
+use mathlib.Core.List.{List, [], _∷_, _++_}
 use Prim.Native.Nat.{ℕ, _*_, _^_}
 use lib.Dec.{leb}
 use lib.IntN.{ℤ, pos, _*ℤ_, natAbs}

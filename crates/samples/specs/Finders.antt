@@ -32,6 +32,7 @@ unfoldable pub turns-from : Sign → Spot → List Spot → List Turn
 turns-from s g [] = []
 turns-from s g (h ∷ fs) = turning s (side (g .value) (h .value)) g (turns-of (g ∷ h ∷ fs))
 
+-- what a finder of turns gives for the samples from the place n on
 unfoldable pub turns-ahead : TurnFinder → ℕ → List ℤ → List Turn
 turns-ahead f n xs = turns-from (came-from (f .heading)) (spot (f .place) (f .last)) (flats-after (f .last) n xs)
 
@@ -51,6 +52,6 @@ unfoldable pub crossings-from : ℤ → Sign → Spot → List Spot → List Cro
 crossings-from h s f [] = []
 crossings-from h s f (g ∷ gs) = crossing s (side (g .value) h) f g (crossings-of h (g ∷ gs))
 
--- (a crossing tells nothing of the values at its ends)
+-- what a finder of crossings gives for the samples from the place n on; the sample that was left is given the height for its value, since a crossing tells only places
 unfoldable pub crossings-ahead : CrossingFinder → ℕ → List ℤ → List Crossing
 crossings-ahead f n xs = crossings-from (f .height) (seen-side (f .seen)) (spot (seen-place (f .seen)) (f .height)) (away (f .height) n xs)

@@ -26,24 +26,21 @@ pub fn counts_are_changes()
     ensures ridges { λ _. ⌜ Turns-are-these ⌝ }
     ensures heights { λ _. ⌜ Crossings-are-these ⌝ }
     ensures ordered { λ _. ⌜ Places-ascend ⌝ }
-{
-}
+{}
 
 /// Whatever obeys the law of taps, now or later, alone or piled, adds no turn and no crossing of a whole height at any
 /// scale, and stays between the lowest and the highest sample.
 pub fn smoothers_are_calm()
     ensures smooth { λ _. ⌜ ((ts : List ℕ) → 0 < length ts → Diminishing ts → Smooths ts) ⌝ }
     ensures piled { λ _. ⌜ ((p q : List ℕ) → 0 < length p → 0 < length q → Piles p q) ⌝ }
-{
-}
+{}
 
 /// From level to level, and where a level is rounded, neither count rises and all stays between the lowest and the highest
 /// height.
 pub fn levels_are_calm()
     ensures levels { λ _. ⌜ ((ps : List Pass) → All Proper ps → (hs : List ℤ) → Calm ps hs) ⌝ }
     ensures roundings { λ _. ⌜ ((l : Level) (r : ℤ → ℤ) → Rounds (l .scale) r → Calmer l (mapped r l)) ⌝ }
-{
-}
+{}
 
 /// Two schedules have the same prime table exactly when no lawful profile tells them apart: when their last levels always
 /// are the same, and when those levels always agree in length and as fractions. A prime table lists each prime in order,
@@ -52,5 +49,4 @@ pub fn tables_decide()
     ensures equality { λ _. ⌜ ((ps qs : List Pass) → length ps ≤ 24 → length qs ≤ 24 → All Proper ps → All Proper qs → Equality ps qs) ⌝ }
     ensures tables { λ _. ⌜ ((ps : List Pass) → Tabulates (primes ps) (table ps)) ⌝ }
     ensures primes { λ _. ⌜ ((ps : List Pass) → All Proper ps → Factored (primes ps) (taps ps)) ⌝ }
-{
-}
+{}

@@ -72,8 +72,14 @@ fn tour(rt: &LibcRuntime) -> Result<(), AnyError> {
     refused_pass(rt, bad)?;
     let (turns, crossings, heights) = admitted_pass(rt, good)?;
     let stations = HILL.len();
-    println!(rt, "Completed: {stations} stations read, {bad} kept out, {good} laid on every window;")?;
-    println!(rt, "{turns} turn and {crossings} crossings of {SIGHT_LINE} found, {heights} heights rounded.")?;
+    println!(
+        rt,
+        "Completed: {stations} stations read, {bad} kept out, {good} laid on every window;"
+    )?;
+    println!(
+        rt,
+        "{turns} turn and {crossings} crossings of {SIGHT_LINE} found, {heights} heights rounded."
+    )?;
     Ok(())
 }
 

@@ -1,5 +1,5 @@
 -- The height times the scale fits, and with nothing seen the finder finds all crossings of it.
-use mathlib.Core.Path.{_≡_, sym}
+use mathlib.Core.Path.{sym}
 use Rattle.std.proofs.shelf.Signed.{toZ-ofZ}
 use Rattle.samples.proofs.Crossing.{crossings-all, crossed-all}
 use Rattle.samples.proofs.Sizes.{height-fits, height-read}
