@@ -1,5 +1,8 @@
-//! A level drawn by one pass.
+//! Levels, drawn by a schedule or weighed by a single pass.
+use crate::show::unexpected;
+use levels::draw;
 use scale_space::passes::Pass;
+use schedule::schedules::Schedule;
 use std::alloc::Global;
 use std::error::AnyError;
 
@@ -8,6 +11,26 @@ use std::error::AnyError;
 pub struct Level {
     pub numerators: Vec<i64>,
     pub scale: u64,
+}
+
+/// Level k of a schedule.
+pub fn draw(
+    heap: Global,
+    schedule: &Schedule,
+    k: usize,
+    profile: &[i64],
+) -> Result<Level, AnyError> {
+    let mut numerators = profile.to_vec(heap)?;
+    match draw::draw(schedule, k, profile, &mut numerators) {
+        Ok(drawn) => {
+            numerators.truncate(drawn.length);
+            Ok(Level {
+                numerators,
+                scale: drawn.scale,
+            })
+        }
+        Err(refusal) => Err(unexpected(heap, refusal)),
+    }
 }
 
 /// Lays a pass on every window of the samples, whether it is admitted or not.

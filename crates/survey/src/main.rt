@@ -1,84 +1,96 @@
-//! The tour: one hill of ground, what a bad pass would make of it, and what a good one does.
-use samples::refusals::Refusal;
+//! The tour: one hill of ground, what a bad pass would make of it, and what a schedule of good ones does.
+use level::Level;
 use samples::refusals::RefusalDisplay;
 use scale_space::passes::Pass;
 use scale_space::passes::PassDisplay;
+use schedule::history::Call;
+use schedule::schedules::Schedule;
 use std::error::AnyError;
 
 mod level;
 mod show;
-
-use level::Level;
 
 const HILL: [i64; 7] = [0, 0, 0, 10, 0, 0, 0];
 
 /// The height whose crossings are listed.
 const SIGHT_LINE: i64 = 3;
 
-/// Which refusal a pass meets, if any.
-fn refusal_of(pass: Pass) -> Option<Refusal> {
-    if pass.is_admitted() {
-        None
-    } else {
-        Some(Refusal::NotAdmitted)
-    }
-}
-
-fn ground(rt: &LibcRuntime) -> Result<(), AnyError> {
-    println!(rt, "1. The ground: one hill, heights in decimetres")?;
-    let level = Level {
+/// What weights that are refused would make of the hill.
+fn bad_pass(rt: &LibcRuntime, pass: Pass) -> Result<(), AnyError> {
+    println!(rt, "1. Weights {pass}: what they would make of one hill")?;
+    let ground = Level {
         numerators: HILL.to_vec(rt.alloc())?,
         scale: 1,
     };
-    show::numerators(rt, &level)?;
-    let _ = show::turns_of(rt, &level)?;
-    let _ = show::rounded(rt, &level)?;
+    show::level(rt, &ground)?;
+    let before = show::turns_of(rt, &ground)?;
+    let level = level::weigh(rt.alloc(), pass, &HILL)?;
+    show::level(rt, &level)?;
+    let after = show::turns_of(rt, &level)?;
+    println!(rt, "  turns before: {before}, after: {after}")?;
     println!(rt, "")?;
     Ok(())
 }
 
-/// What a pass would make of the hill, and the refusal that keeps it out.
-fn refused_pass(rt: &LibcRuntime, pass: Pass) -> Result<(), AnyError> {
-    println!(rt, "2. Weights {pass}: what they would make of it")?;
-    let level = level::weigh(rt.alloc(), pass, &HILL)?;
-    show::numerators(rt, &level)?;
-    let found = show::turns_of(rt, &level)?;
-    let _ = show::rounded(rt, &level)?;
-    println!(rt, "  {found} turns where the ground has 1")?;
-    if let Some(refusal) = refusal_of(pass) {
-        let number = refusal.number();
-        println!(rt, "  refused with {number}: {refusal}")?;
+/// Makes the calls one by one, and shows what each answers.
+fn edit(rt: &LibcRuntime, calls: &[Call]) -> Result<(Schedule, usize), AnyError> {
+    println!(rt, "2. A schedule, call by call")?;
+    let mut schedule = Schedule::new();
+    let mut refused: usize = 0;
+    for call in calls {
+        show::call(rt, call)?;
+        match schedule.make(call) {
+            Ok(stand) => println!(rt, "{stand} stand")?,
+            Err(refusal) => {
+                let number = refusal.number();
+                println!(rt, "refused with {number}, {refusal}")?;
+                refused = refused.saturating_add(1);
+            }
+        }
+    }
+    show::schedule(rt, &schedule)?;
+    println!(rt, "")?;
+    Ok((schedule, refused))
+}
+
+/// Draws every level of the schedule, and counts its turns and its crossings of the sight line.
+fn levels(rt: &LibcRuntime, schedule: &Schedule) -> Result<(usize, usize, usize), AnyError> {
+    let mut count: usize = 0;
+    let mut turns: usize = 0;
+    let mut crossings: usize = 0;
+    for k in 0..=schedule.len() {
+        println!(rt, "3.{k} Level {k}")?;
+        let level = level::draw(rt.alloc(), schedule, k, &HILL)?;
+        show::level(rt, &level)?;
+        turns = turns.saturating_add(show::turns_of(rt, &level)?);
+        crossings = crossings.saturating_add(show::crossings_of(rt, &level, SIGHT_LINE)?);
+        count = count.saturating_add(1);
     }
     println!(rt, "")?;
-    Ok(())
-}
-
-/// What an admitted pass makes of the hill; answers how many turns, crossings and heights it left.
-fn admitted_pass(rt: &LibcRuntime, pass: Pass) -> Result<(usize, usize, usize), AnyError> {
-    println!(rt, "3. Weights {pass}: what they make of it")?;
-    let level = level::weigh(rt.alloc(), pass, &HILL)?;
-    show::numerators(rt, &level)?;
-    let turns = show::turns_of(rt, &level)?;
-    let crossings = show::crossings_of(rt, &level, SIGHT_LINE)?;
-    let heights = show::rounded(rt, &level)?;
-    println!(rt, "")?;
-    Ok((turns, crossings, heights))
+    Ok((count, turns, crossings))
 }
 
 fn tour(rt: &LibcRuntime) -> Result<(), AnyError> {
-    let bad = Pass::Triple(1, 0, 1);
-    let good = Pass::Triple(1, 2, 1);
-    ground(rt)?;
-    refused_pass(rt, bad)?;
-    let (turns, crossings, heights) = admitted_pass(rt, good)?;
+    bad_pass(rt, Pass::Triple(1, 0, 1))?;
+    let calls = [
+        Call::AddTriple(1, 0, 1),
+        Call::AddTriple(2, 4, 2),
+        Call::AddStep(1, 4),
+        Call::AddPair(3, 3),
+        Call::Withdraw(1),
+        Call::Withdraw(7),
+    ];
+    let (schedule, refused) = edit(rt, &calls)?;
+    let (count, turns, crossings) = levels(rt, &schedule)?;
     let stations = HILL.len();
+    let made = calls.len();
     println!(
         rt,
-        "Completed: {stations} stations read, {bad} kept out, {good} laid on every window;"
+        "Completed: {stations} stations read, {made} calls made and {refused} of them refused,"
     )?;
     println!(
         rt,
-        "{turns} turn and {crossings} crossings of {SIGHT_LINE} found, {heights} heights rounded."
+        "{count} levels drawn, {turns} turns and {crossings} crossings of {SIGHT_LINE} found."
     )?;
     Ok(())
 }

@@ -1,4 +1,4 @@
-//! What the tour prints of a level.
+//! What the tour prints.
 use crate::level::Level;
 use samples::crossings;
 use samples::refusals::Refusal;
@@ -7,8 +7,12 @@ use samples::rounding;
 use samples::turns;
 use scale_space::crossings::Crossing;
 use scale_space::crossings::Direction;
+use scale_space::passes::PassDisplay;
 use scale_space::turns::Turn;
 use scale_space::turns::TurnKind;
+use schedule::history::Call;
+use schedule::schedules::Schedule;
+use std::alloc::Global;
 use std::error::AnyError;
 
 /// Room for what one small profile can hold.
@@ -22,11 +26,20 @@ fn numbers(rt: &LibcRuntime, title: &str, values: &[i64]) -> Result<(), AnyError
     Ok(())
 }
 
-pub fn numerators(rt: &LibcRuntime, level: &Level) -> Result<(), AnyError> {
+/// A level: its numerators, and a picture of it rounded to whole heights.
+pub fn level(rt: &LibcRuntime, level: &Level) -> Result<(), AnyError> {
     let scale = level.scale;
     numbers(rt, "numerators", &level.numerators)?;
     println!(rt, " over {scale}")?;
-    Ok(())
+    let mut out = [0; PLACES];
+    let count = match rounding::round(&level.numerators, scale, &mut out) {
+        Ok(count) => count,
+        Err(refusal) => return Err(unexpected(rt.alloc(), refusal)),
+    };
+    let heights = out.get(0..count).unwrap_or(&[]);
+    numbers(rt, "rounded", heights)?;
+    println!(rt, "")?;
+    picture(rt, heights)
 }
 
 /// A bar for each height, as a picture of the ground.
@@ -55,10 +68,13 @@ fn direction_name(direction: Direction) -> &'static str {
     }
 }
 
-/// An error that says which refusal the tour met.
-fn unexpected(rt: &LibcRuntime, refusal: Refusal) -> Result<usize, AnyError> {
+/// An error that says which refusal the tour did not expect.
+pub fn unexpected(heap: Global, refusal: Refusal) -> AnyError {
     let number = refusal.number();
-    Err(format!(rt.alloc(), "refused with {number}: {refusal}")?.into())
+    match format!(heap, "refused with {number}: {refusal}") {
+        Ok(text) => text.into(),
+        Err(error) => error.into(),
+    }
 }
 
 /// Lists the turns of a level, and answers how many there are.
@@ -70,7 +86,7 @@ pub fn turns_of(rt: &LibcRuntime, level: &Level) -> Result<usize, AnyError> {
     }; PLACES];
     let found = match turns::find(&level.numerators, &mut table) {
         Ok(found) => found,
-        Err(refusal) => return unexpected(rt, refusal),
+        Err(refusal) => return Err(unexpected(rt.alloc(), refusal)),
     };
     let scale = level.scale;
     for turn in table.iter().take(found) {
@@ -91,7 +107,7 @@ pub fn crossings_of(rt: &LibcRuntime, level: &Level, height: i64) -> Result<usiz
     }; PLACES];
     let found = match crossings::find(&level.numerators, level.scale, height, &mut table) {
         Ok(found) => found,
-        Err(refusal) => return unexpected(rt, refusal),
+        Err(refusal) => return Err(unexpected(rt.alloc(), refusal)),
     };
     for crossing in table.iter().take(found) {
         let way = direction_name(crossing.direction);
@@ -102,16 +118,25 @@ pub fn crossings_of(rt: &LibcRuntime, level: &Level, height: i64) -> Result<usiz
     Ok(found)
 }
 
-/// Shows the rounded level as numbers and as a picture, and answers how many heights it has.
-pub fn rounded(rt: &LibcRuntime, level: &Level) -> Result<usize, AnyError> {
-    let mut out = [0; PLACES];
-    let count = match rounding::round(&level.numerators, level.scale, &mut out) {
-        Ok(count) => count,
-        Err(refusal) => return unexpected(rt, refusal),
-    };
-    let heights = out.get(0..count).unwrap_or(&[]);
-    numbers(rt, "rounded", heights)?;
-    println!(rt, "")?;
-    picture(rt, heights)?;
-    Ok(count)
+/// A call, by its arguments.
+pub fn call(rt: &LibcRuntime, call: &Call) -> Result<(), AnyError> {
+    match call {
+        Call::AddPair(a, b) => print!(rt, "  add pair ({a}, {b}): ")?,
+        Call::AddTriple(a, b, c) => print!(rt, "  add triple ({a}, {b}, {c}): ")?,
+        Call::AddStep(p, q) => print!(rt, "  add step {p}/{q}: ")?,
+        Call::Withdraw(place) => print!(rt, "  withdraw {place}: ")?,
+        Call::Join(_) => print!(rt, "  join another: ")?,
+    }
+    Ok(())
+}
+
+/// The passes that stand, and their scale.
+pub fn schedule(rt: &LibcRuntime, schedule: &Schedule) -> Result<(), AnyError> {
+    print!(rt, "  schedule:")?;
+    for pass in schedule.as_slice() {
+        print!(rt, " {pass}")?;
+    }
+    let scale = schedule.scale();
+    println!(rt, ", scale {scale}")?;
+    Ok(())
 }

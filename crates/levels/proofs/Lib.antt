@@ -1,0 +1,5 @@
+pub mod Sizes
+pub mod Blending
+pub mod Laying
+pub mod Stepping
+pub mod Checking

@@ -1,0 +1,2 @@
+//! Levels, drawn exactly and in place.
+pub mod draw;
