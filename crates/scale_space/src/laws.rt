@@ -6,7 +6,7 @@ ghost use lib.IntN.{ℤ, _-ℤ_};
 ghost use lib.ListN.{length};
 ghost use Rattle.std.specs.shelf.Lists.{All};
 ghost use Rattle.scale_space.specs.Equality.{Equality};
-ghost use Rattle.scale_space.specs.Laws.{Piles, Calm};
+ghost use Rattle.scale_space.specs.Laws.{Piles};
 ghost use Rattle.scale_space.specs.Levels.{Level, mapped, Calmer, Diminishing, Smooths};
 ghost use Rattle.scale_space.specs.Passes.{Proper, taps};
 ghost use Rattle.scale_space.specs.Primes.{primes, Factored};
@@ -35,11 +35,10 @@ pub fn smoothers_are_calm()
     ensures piled { λ _. ⌜ ((p q : List ℕ) → 0 < length p → 0 < length q → Piles p q) ⌝ }
 {}
 
-/// From level to level, and where a level is rounded, neither count rises and all stays between the lowest and the highest
-/// height.
-pub fn levels_are_calm()
-    ensures levels { λ _. ⌜ ((ps : List Pass) → All Proper ps → (hs : List ℤ) → Calm ps hs) ⌝ }
-    ensures roundings { λ _. ⌜ ((l : Level) (r : ℤ → ℤ) → Rounds (l .scale) r → Calmer l (mapped r l)) ⌝ }
+/// A map that keeps order and whole heights, and so any rule of rounding that does, adds no turn and no crossing of a whole
+/// height, and stays between the lowest and the highest.
+pub fn roundings_are_calm()
+    ensures { λ _. ⌜ ((l : Level) (r : ℤ → ℤ) → Rounds (l .scale) r → Calmer l (mapped r l)) ⌝ }
 {}
 
 /// Two schedules have the same prime table exactly when no lawful profile tells them apart: when their last levels always
