@@ -1,6 +1,6 @@
 -- Lawful heights, and levels that are light enough to be weighed.
-use mathlib.Core.Path.{_≡_, ap, _∙_}
-use mathlib.Core.Bool.{true, false, _&&_}
+use mathlib.Core.Path.{_≡_, sym, ap, _∙_}
+use mathlib.Core.Bool.{Bool, true, _&&_}
 use mathlib.Core.List.{List, [], _∷_}
 use Prim.Native.Nat.{ℕ, _+_, _*_, _^_, _≤_, _<_}
 use native.Mathlib.Nat.{mul-le-mul-left}
@@ -10,16 +10,15 @@ use lib.IntN.{ℤ, pos, negsuc, _*ℤ_, natAbs}
 use lib.ListN.{length, getD, drop}
 use Rattle.std.proofs.shelf.Elements.{all-weaker}
 use Rattle.std.proofs.shelf.Lists.{at-drop-more}
-use Rattle.std.proofs.shelf.Tests.{le-leb, lt-leb, leb-true, and-parts}
+use Rattle.std.proofs.shelf.Tests.{leb-true, and-parts}
 use Rattle.scale_space.specs.Levels.{Level, ground, Between, Within}
+use Rattle.samples.specs.Answers.{height-lawful}
 use Rattle.levels.specs.Drawing.{heights-lawful, Light}
 
 -- ---- heights
-pub lawful-more : (hs : List ℤ) (i : ℕ) → i < length hs → natAbs (getD hs i (pos 0)) ≤ 100000 → heights-lawful (drop i hs) ≡ heights-lawful (drop (i + 1) hs)
-lawful-more hs i l h = at-drop-more heights-lawful hs i (pos 0) l ∙ ap (λ b. b && heights-lawful (drop (i + 1) hs)) (le-leb (natAbs (getD hs i (pos 0))) 100000 h)
-
-pub lawful-not : (hs : List ℤ) (i : ℕ) → i < length hs → 100000 < natAbs (getD hs i (pos 0)) → heights-lawful (drop i hs) ≡ false
-lawful-not hs i l h = at-drop-more heights-lawful hs i (pos 0) l ∙ ap (λ b. b && heights-lawful (drop (i + 1) hs)) (lt-leb (natAbs (getD hs i (pos 0))) 100000 h)
+-- one height tested
+pub lawful-next : (hs : List ℤ) (i : ℕ) (b : Bool) → i < length hs → b ≡ height-lawful (getD hs i (pos 0)) → heights-lawful (drop i hs) ≡ b && heights-lawful (drop (i + 1) hs)
+lawful-next hs i b l e = at-drop-more heights-lawful hs i (pos 0) l ∙ ap (λ t. t && heights-lawful (drop (i + 1) hs)) (sym e)
 
 height-between : (h : ℤ) → natAbs h ≤ 100000 → Between (negsuc 99999 *ℤ pos 1) (pos 100000 *ℤ pos 1) h
 height-between h l = (omega (arith, ints), omega (arith, ints))

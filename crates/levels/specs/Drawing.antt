@@ -13,12 +13,13 @@ use Rattle.scale_space.specs.Levels.{Level}
 use Rattle.scale_space.specs.Passes.{reach, level}
 use Rattle.samples.specs.declared.refusals.Refusal.{Refusal}
 use Rattle.samples.specs.declared.refusals.Refusal.the-variants.{NoSuchPlace, ProfileLength, HeightOutOfRange, TooFewSamples, BufferTooShort}
+use Rattle.samples.specs.Answers.{height-lawful}
 use Rattle.levels.specs.declared.draw.Drawn.{Drawn}
 
 -- each height is from -100,000 to 100,000
 abbrev pub heights-lawful : List ℤ → Bool
 heights-lawful [] = true
-heights-lawful (h ∷ hs) = leb (natAbs h) 100000 && heights-lawful hs
+heights-lawful (h ∷ hs) = height-lawful h && heights-lawful hs
 
 -- why level k of the passes ps cannot be drawn from the profile hs with a work buffer of `room` places, if it cannot
 abbrev pub allowed : List Pass → ℕ → List ℤ → ℕ → Result (Unit {0}) Refusal

@@ -2,7 +2,7 @@
 //! refusals of the whole library.
 pub mod crossings;
 pub mod finder;
-mod limits;
+pub mod limits;
 pub mod refusals;
 pub mod rounding;
 pub mod turns;
