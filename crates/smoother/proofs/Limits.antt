@@ -1,6 +1,6 @@
 -- The limits of a pile, and the laws of what keeps them.
 use mathlib.Core.Path.{_≡_, sym, ap, subst, _∙_}
-use mathlib.Core.Bool.{true, false, _&&_}
+use mathlib.Core.Bool.{true, _&&_}
 use mathlib.Core.List.{List, [], _∷_}
 use mathlib.Core.Logic.{_⊎_, inl, inr}
 use Prim.Native.Nat.{ℕ, _+_, _-_, _*_, _/_, _^_, _≤_, _<_}
@@ -10,16 +10,14 @@ use borrow.Author.Differences.{ints}
 use lib.Dec.{leb}
 use lib.IntN.{ℤ, pos, _+ℤ_, _*ℤ_, +ℤ-idr}
 use lib.ListN.{length}
-use Rattle.std.specs.declared.result.Result.the-variants.{Ok, Err}
-use Rattle.std.proofs.shelf.Tests.{le-leb, lt-leb, leb-true, cases-lt, cond-true, cond-false, cond-both, and-parts, and-from}
-use Rattle.samples.specs.declared.refusals.Refusal.the-variants.{ScaleTooLarge, ReachTooLong}
+use Rattle.std.proofs.shelf.Tests.{le-leb, lt-leb, leb-true, cases-lt, cond-both, and-parts}
 use Rattle.scale_space.specs.Signs.{changes}
 use Rattle.scale_space.specs.Taps.{dot, windows, scale, conv}
 use Rattle.scale_space.specs.Levels.{Diminishing}
 use Rattle.scale_space.proofs.Conv.{conv-scale, length-conv}
 use Rattle.scale_space.proofs.Piles.{taps-pile}
 use Rattle.scale_space.proofs.Windows.{windows-cons, windows-short}
-use Rattle.smoother.specs.Piled.{scales-fit, reaches-fit, piled, stacked}
+use Rattle.smoother.specs.Piled.{scales-fit, reaches-fit, piled}
 
 -- the one tap 1 changes nothing
 windows-one : (xs : List ℤ) → windows (1 ∷ []) xs ≡ xs
@@ -43,25 +41,11 @@ scales-test p q a b e f one = by (cases-lt (2 ^ 40 / scale q) (scale p))
     by (inl h) = same ∙ lt-leb _ _ h ∙ sym (lt-leb _ _ (div-lt-iff-lt-mul one .0 h))
     by (inr h) = same ∙ le-leb _ _ h ∙ sym (le-leb _ _ (le-div-iff-mul-le one .0 h))
 
-pub scales-within : (p q : List ℕ) → scales-fit p q ≡ true → scale p * scale q ≤ 2 ^ 40
+scales-within : (p q : List ℕ) → scales-fit p q ≡ true → scale p * scale q ≤ 2 ^ 40
 scales-within p q e = leb-true (scale p * scale q) (2 ^ 40) e
 
-pub reaches-within : (p q : List ℕ) → reaches-fit p q ≡ true → (length p - 1) + (length q - 1) ≤ 48
+reaches-within : (p q : List ℕ) → reaches-fit p q ≡ true → (length p - 1) + (length q - 1) ≤ 48
 reaches-within p q e = leb-true ((length p - 1) + (length q - 1)) 48 e
-
--- ---- what a pile answers
-pub piled-within : (p q : List ℕ) → scales-fit p q ≡ true → reaches-fit p q ≡ true → piled p q ≡ conv p q
-piled-within p q e f = cond-true (scales-fit p q && reaches-fit p q) (conv p q) (1 ∷ []) (and-from (scales-fit p q) (reaches-fit p q) e f)
-
-module _ {P : Type 0} (p q : List ℕ) (pile : P) where
-  pub stacked-heavy : scales-fit p q ≡ false → Err ScaleTooLarge ≡ stacked p q pile
-  stacked-heavy e = sym (cond-false (scales-fit p q) _ _ e)
-
-  pub stacked-long : scales-fit p q ≡ true → reaches-fit p q ≡ false → Err ReachTooLong ≡ stacked p q pile
-  stacked-long e f = sym (cond-true (scales-fit p q) _ _ e ∙ cond-false (reaches-fit p q) _ _ f)
-
-  pub stacked-all : scales-fit p q ≡ true → reaches-fit p q ≡ true → Ok pile ≡ stacked p q pile
-  stacked-all e f = sym (cond-true (scales-fit p q) _ _ e ∙ cond-true (reaches-fit p q) _ _ f)
 
 -- ---- the laws of a pile, from those of its parts
 both : (p q : List ℕ) → scales-fit p q && reaches-fit p q ≡ true → (scale p * scale q ≤ 2 ^ 40) × ((length p - 1) + (length q - 1) ≤ 48)

@@ -35,7 +35,7 @@ pub trait Smoother {
     fn reach(&self) -> usize
         ensures { λ r. ⌜ r + 1 ≡ length (taps (now (self .entry))) ⌝ }
     {
-        self.show().len() - 1
+        self.show().as_slice().len() - 1
     }
 
     /// The sum of the taps.

@@ -7,8 +7,10 @@ use schedule::history::Call;
 use schedule::schedules::Schedule;
 use std::error::AnyError;
 
+mod comparing;
 mod level;
 mod show;
+mod smoothing;
 
 const HILL: [i64; 7] = [0, 0, 0, 10, 0, 0, 0];
 
@@ -82,6 +84,12 @@ fn tour(rt: &LibcRuntime) -> Result<(), AnyError> {
     ];
     let (schedule, refused) = edit(rt, &calls)?;
     let (count, turns, crossings) = levels(rt, &schedule)?;
+    println!(rt, "4. One profile through every kind of smoother")?;
+    let windows = smoothing::all_kinds(rt, &HILL)?;
+    println!(rt, "")?;
+    println!(rt, "5. When are two schedules the same?")?;
+    let (compared, equal) = comparing::some_pairs(rt)?;
+    println!(rt, "")?;
     let stations = HILL.len();
     let made = calls.len();
     println!(
@@ -90,7 +98,11 @@ fn tour(rt: &LibcRuntime) -> Result<(), AnyError> {
     )?;
     println!(
         rt,
-        "{count} levels drawn, {turns} turns and {crossings} crossings of {SIGHT_LINE} found."
+        "{count} levels drawn, {turns} turns and {crossings} crossings of {SIGHT_LINE} found,"
+    )?;
+    println!(
+        rt,
+        "{windows} windows weighed, {compared} pairs of schedules compared and {equal} of them equal."
     )?;
     Ok(())
 }

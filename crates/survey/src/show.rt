@@ -18,7 +18,8 @@ use std::error::AnyError;
 /// Room for what one small profile can hold.
 const PLACES: usize = 16;
 
-fn numbers(rt: &LibcRuntime, title: &str, values: &[i64]) -> Result<(), AnyError> {
+/// A line of numbers under a title, without its end.
+pub fn numbers(rt: &LibcRuntime, title: &str, values: &[i64]) -> Result<(), AnyError> {
     print!(rt, "  {title}:")?;
     for value in values {
         print!(rt, " {value}")?;
@@ -130,12 +131,24 @@ pub fn call(rt: &LibcRuntime, call: &Call) -> Result<(), AnyError> {
     Ok(())
 }
 
+/// The passes that stand in a schedule.
+pub fn passes(rt: &LibcRuntime, schedule: &Schedule) -> Result<(), AnyError> {
+    if schedule.len() == 0 {
+        print!(rt, "no pass")?;
+    }
+    for (place, pass) in schedule.as_slice().iter().enumerate() {
+        if place > 0 {
+            print!(rt, " ")?;
+        }
+        print!(rt, "{pass}")?;
+    }
+    Ok(())
+}
+
 /// The passes that stand, and their scale.
 pub fn schedule(rt: &LibcRuntime, schedule: &Schedule) -> Result<(), AnyError> {
-    print!(rt, "  schedule:")?;
-    for pass in schedule.as_slice() {
-        print!(rt, " {pass}")?;
-    }
+    print!(rt, "  schedule: ")?;
+    passes(rt, schedule)?;
     let scale = schedule.scale();
     println!(rt, ", scale {scale}")?;
     Ok(())

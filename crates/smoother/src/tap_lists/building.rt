@@ -44,13 +44,6 @@ impl TapList {
         TapList { items, len: 3 }
     }
 
-    /// How many taps there are.
-    pub fn len(&self) -> usize
-        ensures { λ r. ⌜ r ≡ length (shown (now (self .entry))) ⌝ }
-    {
-        self.len
-    }
-
     /// The taps, in order.
     pub fn as_slice(&self) -> &[u64]
         ensures { λ r. ⌜ now r ≡ shown (now (self .entry)) ⌝ }
