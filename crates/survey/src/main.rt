@@ -42,7 +42,7 @@ fn edit(rt: &LibcRuntime, calls: &[Call]) -> Result<(Schedule, usize), AnyError>
     for call in calls {
         show::call(rt, call)?;
         match schedule.make(call) {
-            Ok(stand) => println!(rt, "{stand} stand")?,
+            Ok(count) => println!(rt, "accepted, passes now {count}")?,
             Err(refusal) => {
                 let number = refusal.number();
                 println!(rt, "refused with {number}, {refusal}")?;
