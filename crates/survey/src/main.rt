@@ -9,6 +9,7 @@ use std::error::AnyError;
 
 mod comparing;
 mod level;
+mod sheeting;
 mod show;
 mod smoothing;
 
@@ -90,6 +91,9 @@ fn tour(rt: &LibcRuntime) -> Result<(), AnyError> {
     println!(rt, "5. When are two schedules the same?")?;
     let (compared, equal) = comparing::some_pairs(rt)?;
     println!(rt, "")?;
+    println!(rt, "6. The schedule as a sheet")?;
+    let back = sheeting::sheets(rt, &schedule)?;
+    println!(rt, "")?;
     let stations = HILL.len();
     let made = calls.len();
     println!(
@@ -102,8 +106,9 @@ fn tour(rt: &LibcRuntime) -> Result<(), AnyError> {
     )?;
     println!(
         rt,
-        "{windows} windows weighed, {compared} pairs of schedules compared and {equal} of them equal."
+        "{windows} windows weighed, {compared} pairs of schedules compared and {equal} of them equal,"
     )?;
+    println!(rt, "{back} passes written to a sheet and read back.")?;
     Ok(())
 }
 
