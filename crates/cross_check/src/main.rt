@@ -1,5 +1,6 @@
 //! Compares the library with a second implementation, which was written apart from it and by other means, on many inputs. For
 //! each kind of call it prints how many answers agree, and how many of these are refusals, with their numbers.
+#![tactic(auto)]
 
 mod against_command;
 mod against_comparing;

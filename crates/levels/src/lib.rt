@@ -1,3 +1,5 @@
 //! Levels, drawn exactly and in place.
+#![tactic(auto)]
+
 pub mod draw;
 pub mod walks;

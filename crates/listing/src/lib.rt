@@ -1,4 +1,6 @@
 //! The listing of a level's turns, and the line that tells a refusal.
+#![tactic(auto)]
+
 mod fields;
 mod lines;
 pub mod listings;

@@ -1,4 +1,6 @@
 //! The primes that schedules are made of, in prime tables, and when two schedules do the same to every profile.
+#![tactic(auto)]
+
 pub mod comparing;
 mod order;
 pub mod roots;

@@ -1,5 +1,7 @@
 //! profile-turns: reads a schedule sheet, an empty line and a profile sheet from standard input, and prints the ridges and
 //! hollows of every level, or one line that tells why not.
+#![tactic(auto)]
+
 ghost use Rattle.std.specs.Prelude.{◌≤◌, length, IfOk};
 
 use command::answering::answer;

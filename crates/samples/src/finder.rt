@@ -20,7 +20,7 @@ pub trait Finder: Copy {
 
 /// How many records a finder gives for the samples.
 fn count<F: Finder>(mut finder: F, samples: &[i64]) -> usize
-    ensures { result ≡ length (finds finder 0 samples.now) }
+    ensures { result ≡ length (F.finds finder 0 samples.now) }
 {
     let mut found = 0;
     for (i, sample) in samples.iter().enumerate() {
@@ -34,9 +34,9 @@ fn count<F: Finder>(mut finder: F, samples: &[i64]) -> usize
 /// Writes a finder's records into a table, in order, and answers how many there are. Each sample gives at most one, so room
 /// for as many as there are samples is enough.
 fn write<F: Finder>(mut finder: F, samples: &[i64], table: &mut [F::Found]) -> usize
-    requires { min (length samples.now) (length (finds finder 0 samples.now)) ≤ length table.old }
-    ensures answer { Ok result ≡ listed (finds finder 0 samples.now) (length table.old) }
-    ensures places { table.new ≡ written (Ok result) (finds finder 0 samples.now) table.old }
+    requires { min (length samples.now) (length (F.finds finder 0 samples.now)) ≤ length table.old }
+    ensures answer { Ok result ≡ listed (F.finds finder 0 samples.now) (length table.old) }
+    ensures places { table.new ≡ written (Ok result) (F.finds finder 0 samples.now) table.old }
 {
     let mut next = 0;
     for (i, sample) in samples.iter().enumerate() {
@@ -51,8 +51,8 @@ fn write<F: Finder>(mut finder: F, samples: &[i64], table: &mut [F::Found]) -> u
 /// Puts a finder's records into the caller's table, in order, unless they are too many for it. Only a table shorter than the
 /// samples can be too short: for it they are counted first, so that a refusal writes none.
 pub fn list<F: Finder>(finder: F, samples: &[i64], table: &mut [F::Found]) -> Result<usize, Refusal>
-    ensures answer { result ≡ listed (finds finder 0 samples.now) (length table.old) }
-    ensures places { table.new ≡ written result (finds finder 0 samples.now) table.old }
+    ensures answer { result ≡ listed (F.finds finder 0 samples.now) (length table.old) }
+    ensures places { table.new ≡ written result (F.finds finder 0 samples.now) table.old }
 {
     let found = if samples.len() > table.len() {
         count(finder, samples)

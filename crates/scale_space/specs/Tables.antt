@@ -24,6 +24,10 @@ abbrev pub added : List PrimeCount → Pass → List PrimeCount
 added [] p = single p ∷ []
 added (r ∷ rs) p = cond (before r.prime p) (r ∷ added rs p) (cond (same r.prime p) (raised r ∷ rs) (single p ∷ r ∷ rs))
 
+-- whether two records are the same
+abbrev pub same_record : PrimeCount → PrimeCount → Bool
+same_record r s = same r.prime s.prime && r.count == s.count
+
 -- the prime table of a list of passes
 abbrev pub table : List Pass → List PrimeCount
 table ps = fold added [] (primes ps)

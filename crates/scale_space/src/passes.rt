@@ -2,6 +2,7 @@
 ghost use Rattle.std.specs.Prelude.{◌≡◌, true, Decides};
 ghost use Rattle.scale_space.specs.Levels.{Diminishing, Smooths};
 ghost use Rattle.scale_space.specs.Passes.{weights, admitted};
+ghost use Rattle.scale_space.specs.Primes.{same};
 ghost use Rattle.std.specs.Cmp.Rules.{comparing};
 ghost use Rattle.std.proofs.Common.{rules};
 
@@ -30,11 +31,14 @@ impl Pass {
 }
 
 impl PartialEq for Pass {
-    ghost equals = { λ a b r. Decides r (a ≡ b) };
+    ghost eq = { same };
 
     ghost laws = { Prim.search (comparing, rules) };
 
-    fn eq(&self, other: &Pass) -> bool {
+    fn eq(&self, other: &Pass) -> bool
+        ensures value { result ≡ same self.now other.now }
+        ensures same { Decides result (self.now ≡ other.now) }
+    {
         match (*self, *other) {
             (Pass::Pair(a, b), Pass::Pair(d, e)) => a == d && b == e,
             (Pass::Triple(a, b, c), Pass::Triple(d, e, f)) => a == d && b == e && c == f,

@@ -1,5 +1,6 @@
 //! A line of a prime table.
 ghost use Rattle.std.specs.Prelude.{◌≡◌, Decides};
+ghost use Rattle.scale_space.specs.Tables.{same_record};
 ghost use Rattle.std.specs.Cmp.Rules.{comparing};
 ghost use Rattle.std.proofs.Common.{rules};
 
@@ -13,11 +14,14 @@ pub struct PrimeCount {
 }
 
 impl PartialEq for PrimeCount {
-    ghost equals = { λ a b r. Decides r (a ≡ b) };
+    ghost eq = { same_record };
 
     ghost laws = { Prim.search (comparing, rules) };
 
-    fn eq(&self, other: &PrimeCount) -> bool {
+    fn eq(&self, other: &PrimeCount) -> bool
+        ensures value { result ≡ same_record self.now other.now }
+        ensures same { Decides result (self.now ≡ other.now) }
+    {
         let prime = self.prime;
         let others = other.prime;
         prime == others && self.count == other.count

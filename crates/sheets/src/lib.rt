@@ -1,5 +1,7 @@
 //! Sheets: profiles and schedules as text, read and written byte by byte. A sheet is a line of names, then lines of values
 //! in that order, each ended by byte 10.
+#![tactic(auto)]
+
 pub mod decimals;
 pub mod faults;
 pub mod profiles;

@@ -1,4 +1,6 @@
 //! Smoothers: one interface, the kinds behind it, and the call that applies any of them.
+#![tactic(auto)]
+
 pub mod apply;
 pub mod binomial;
 pub mod interface;

@@ -1,4 +1,6 @@
 //! The tour: one hill of ground, what a bad pass would make of it, and what a schedule of good ones does.
+#![tactic(auto)]
+
 use level::Level;
 use scale_space::passes::Pass;
 use schedule::history::Call;

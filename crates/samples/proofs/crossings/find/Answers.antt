@@ -14,8 +14,8 @@ overflow-mul-finder c =
 pub returns : goal.returns
 returns c =
     let f = c.ranges.height in
-    let scale-is = sym c.if-not-is-scale.ensures in
-    let height_is = sym (simp to_z-of_z at c.if-not-is-height.ensures) in
+    let scale-is = sym c.if-not-is_scale.ensures in
+    let height_is = sym (simp to_z-of_z at c.if-not-is_height.ensures) in
     let all = crossings_all _ _ c.args.samples.now (height_read c.args.height c.args.scale f scale-is height_is) in
     record {
       answer = crossed_all c.args.samples.now c.args.scale c.args.height _ _ _ scale-is height_is all c.list.ensures.answer;

@@ -2,7 +2,7 @@
 use Rattle.std.proofs.Common.{◌+◌, length, get_or, pos, ap, arith, w64, SFits, rules}
 use Rattle.samples.proofs.Reading.{read_some, read_none, read_out}
 use Rattle.samples.proofs.finder.count.Goals as goal
-use Rattle.samples.proofs.finder.count.Goals.{in-Some, in-default}
+use Rattle.samples.proofs.finder.count.Goals.{in-Some, in_default}
 
 pub loop-i-preserved : goal.loop-i-preserved
 loop-i-preserved g c =
@@ -13,7 +13,7 @@ loop-i-preserved g c =
     let f : SFits w64 (get_or xs i (pos 0)) = search rules in
     elim c.match-read.branch [
       | in-Some w ↦ let e = ap length (read_some F G c.read.result _ xs i f c.loop-i-test.true c.read.ensures w.in-Some.is) in (omega (arith, w.found-is), omega (arith, w.found-is))
-      | in-default w ↦ let e = ap length (read_none F G c.read.result xs i f c.loop-i-test.true c.read.ensures w.in-default.is) in (omega (arith, w.found-is), omega (arith, w.found-is))
+      | in_default w ↦ let e = ap length (read_none F G c.read.result xs i f c.loop-i-test.true c.read.ensures w.in_default.is) in (omega (arith, w.found-is), omega (arith, w.found-is))
     ]
 
 pub returns : goal.returns

@@ -3,7 +3,7 @@ use Rattle.std.proofs.Common.{◌+◌, length, get_or, pos, arith, w64, SFits, r
 use Rattle.samples.proofs.Reading.{read_some, read_none, read_out}
 use Rattle.samples.proofs.Writing.{put_none, put_same, put_room, put_more, put_count, put_all, listed_all}
 use Rattle.samples.proofs.finder.write.Goals as goal
-use Rattle.samples.proofs.finder.write.Goals.{in-Some, in-default, In-Some}
+use Rattle.samples.proofs.finder.write.Goals.{in-Some, in_default, In-Some}
 
 pub loop-i-init : goal.loop-i-init
 loop-i-init g c = (omega arith, put_none _ _)
@@ -33,7 +33,7 @@ loop-i-preserved g c =
           let e = read_some F G c.read.result _ xs i f c.loop-i-test.true c.read.ensures w.in-Some.is in
           let left = put_room _ _ _ _ _ _ _ c.loop-i.invariant.1 e in
           (omega (arith, w.next-is), simp (w.table-is, w.next-is) (put_more _ _ _ _ _ _ _ c.loop-i.invariant.1 e (omega (arith, c.requires, left))))
-      | in-default w ↦ (omega (arith, w.next-is), simp (w.table-is, w.next-is) (put_same _ _ _ _ _ _ c.loop-i.invariant.1 (read_none F G c.read.result xs i f c.loop-i-test.true c.read.ensures w.in-default.is)))
+      | in_default w ↦ (omega (arith, w.next-is), simp (w.table-is, w.next-is) (put_same _ _ _ _ _ _ c.loop-i.invariant.1 (read_none F G c.read.result xs i f c.loop-i-test.true c.read.ensures w.in_default.is)))
     ]
 
 pub returns : goal.returns

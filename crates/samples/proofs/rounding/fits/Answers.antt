@@ -15,8 +15,8 @@ returns-then-unsigned-abs-limit c =
 pub loop-numerator-preserved : goal.loop-numerator-preserved
 loop-numerator-preserved c =
     let f : SFits w64 (get_or c.args.numerators.now c.loop-numerator.numerator-index (pos 0)) = search rules in
-    let size : c.unsigned-abs.result ≡ nat_abs (get_or c.args.numerators.now c.loop-numerator.numerator-index (pos 0)) = simp to_z-of_z at c.unsigned-abs.ensures.value in
-    sym (fit_more c.args.scale c.args.numerators.now c.loop-numerator.numerator-index c.loop-numerator-test.true (omega (arith, c.if-unsigned-abs-limit.false))) ∙ c.loop-numerator.invariant
+    let size : c.unsigned_abs.result ≡ nat_abs (get_or c.args.numerators.now c.loop-numerator.numerator-index (pos 0)) = simp to_z-of_z at c.unsigned_abs.ensures.value in
+    sym (fit_more c.args.scale c.args.numerators.now c.loop-numerator.numerator-index c.loop-numerator-test.true (omega (arith, c.if-unsigned_abs-limit.false))) ∙ c.loop-numerator.invariant
 
 pub returns : goal.returns
 returns c = sym (at_drop_all (heights_fit c.args.scale) c.args.numerators.now c.loop-numerator.numerator-index c.loop-numerator-test.false) ∙ c.loop-numerator.invariant

@@ -3,4 +3,4 @@ use Rattle.scale_space.proofs.Calm.{whole_calm}
 use Rattle.samples.proofs.rounding.round.Goals as goal
 
 pub returns : goal.returns
-returns c = record { answer = c.round-all.ensures.answer; places = c.round-all.ensures.places; calm = whole_calm }
+returns c = record { answer = c.round_all.ensures.answer; places = c.round_all.ensures.places; calm = whole_calm }

@@ -11,7 +11,7 @@ pub quotient-requires : goal.quotient-requires
 quotient-requires c =
     let f : SFits w64 (get_or c.args.numerators.now c.loop-i.i (pos 0)) = search rules in
     record {
-      lawful = sym c.if-not-is-scale.ensures;
+      lawful = sym c.if-not-is_scale.ensures;
       small = simp to_z-of_z (fit_at c.args.scale c.args.numerators.now c.loop-i.i c.loop-i-test.true (sym c.if-not-fits.ensures));
     }
 
@@ -30,6 +30,6 @@ returns c =
     let xs = c.args.numerators.now in
     let s = c.args.scale in
     record {
-      answer = rounding_all xs s _ (sym c.if-not-is-scale.ensures) (omega arith) (sym c.if-not-fits.ensures);
+      answer = rounding_all xs s _ (sym c.if-not-is_scale.ensures) (omega arith) (sym c.if-not-fits.ensures);
       places = put_all _ _ _ _ _ _ c.loop-i.invariant (at_drop_all (map (rounded s)) xs c.loop-i.i c.loop-i-test.false) (sym (length-map xs (rounded s)));
     }

@@ -9,9 +9,9 @@ use Rattle.samples.proofs.turns.find.Goals as goal
 pub returns : goal.returns
 returns c =
     let xs = c.args.samples.now in
-    let first : c.unwrap-or-first.result ≡ get_or xs 0 (pos 0) = grind (arith, c.first.ensures.item.2, get_or_past xs 0 (pos 0)) in
-    let f : SFits w64 c.unwrap-or-first.result = search rules in
-    let all = turns_all xs c.unwrap-or-first.result first in
+    let first : c.unwrap_or-first.result ≡ get_or xs 0 (pos 0) = grind (arith, c.first.ensures.item.2, get_or_past xs 0 (pos 0)) in
+    let f : SFits w64 c.unwrap_or-first.result = search rules in
+    let all = turns_all xs c.unwrap_or-first.result first in
     record {
       answer = listed_as _ _ _ _ all (simp to_z-of_z at c.list.ensures.answer);
       places = written_as _ _ c.args.table.now _ c.list.result all (simp to_z-of_z at c.list.ensures.places);
