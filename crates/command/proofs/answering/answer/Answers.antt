@@ -10,8 +10,8 @@ returns-in-Err c =
     let text = printed c.args.input.now in
     let out = c.args.out.now in
     let line = rejection_line c.in-Err.rejection in
-    let written = c.write-rejection.ensures in
-    let room : 1178200 ≤ length out = omega (arith, c.if-out-lt-MOST-OUTPUT.false) in
+    let written = c.write_rejection.ensures in
+    let room : 1178200 ≤ length out = omega (arith, c.if-out-lt-MOST_OUTPUT.false) in
     let same : line ≡ text = ap shown (sym c.in-Err.ensures) in
     let e = line_replied text out room line written.short same in
     record {

@@ -7,7 +7,7 @@ pub unreachable-requires : goal.unreachable-requires
 unreachable-requires c =
     let w = c.args.walk.now in
     let short = text_short w c.requires.low in
-    not_short (text w) c.args.out.now c.args.at (omega (arith, short, c.requires.room)) c.in-default.field-0 c.in-default.ensures.answers
+    not_short (text w) c.args.out.now c.args.at (omega (arith, short, c.requires.room)) c.in_default.field-0 c.in_default.ensures.answers
 
 pub returns : goal.returns
 returns c =

@@ -5,4 +5,4 @@ use Rattle.command.proofs.Requests.{asked_is}
 use Rattle.command.proofs.asking.set_out.Goals as goal
 
 pub returns : goal.returns
-returns c = subst (SetsOut c.set-out-with.result) (asked_is c.args.input.now _ _ (omega (arith, c.if-input-gt-MOST-BYTES.false)) c.part.ensures) c.set-out-with.ensures
+returns c = subst (SetsOut c.set_out_with.result) (asked_is c.args.input.now _ _ (omega (arith, c.if-input-gt-MOST_BYTES.false)) c.part.ensures) c.set_out_with.ensures

@@ -9,14 +9,14 @@ loop-table-init c = counted_none c.args.walk.now c.args.counts.now c.requires.st
 pub returns-then-not-step : goal.returns-then-not-step
 returns-then-not-step c =
     let room : c.loop-table.at < length c.loop-table.counts = counted_room _ _ _ _ _ c.loop-table.invariant (omega (arith, c.requires.room, c.loop-table.auto.counts)) in
-    counted_all _ _ _ _ _ c.loop-table.invariant room c.count-here.result c.count-here.ensures c.step.new.self c.if-not-step.ensures.is
+    counted_all _ _ _ _ _ c.loop-table.invariant room c.count_here.result c.count_here.ensures c.step.new.self c.if-not-step.ensures.is
 
 pub loop-table-smaller : goal.loop-table-smaller
 loop-table-smaller c =
     let room : c.loop-table.at < length c.loop-table.counts = counted_room _ _ _ _ _ c.loop-table.invariant (omega (arith, c.requires.room, c.loop-table.auto.counts)) in
-    counted_less _ _ _ _ _ c.loop-table.invariant room c.count-here.result c.count-here.ensures c.step.new.self c.if-not-step.ensures.is
+    counted_less _ _ _ _ _ c.loop-table.invariant room c.count_here.result c.count_here.ensures c.step.new.self c.if-not-step.ensures.is
 
 pub loop-table-preserved : goal.loop-table-preserved
 loop-table-preserved c =
     let room : c.loop-table.at < length c.loop-table.counts = counted_room _ _ _ _ _ c.loop-table.invariant (omega (arith, c.requires.room, c.loop-table.auto.counts)) in
-    counted_more _ _ _ _ _ c.loop-table.invariant room c.count-here.result c.count-here.ensures c.step.new.self c.if-not-step.ensures.is c.step.ensures.climbs
+    counted_more _ _ _ _ _ c.loop-table.invariant room c.count_here.result c.count_here.ensures c.step.new.self c.if-not-step.ensures.is c.step.ensures.climbs

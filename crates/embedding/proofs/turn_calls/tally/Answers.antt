@@ -16,6 +16,6 @@ returns c =
     let hs = c.args.heights.now in
     let to = c.len-last.ensures in
     let set_out = c.in-Ok-new.ensures in
-    let put = c.put-counts.ensures ps hs (up_to_last c.in-Ok-new.walk ps c.len-last.result hs to set_out.1) in
-    let e = tallied_all (schedule_of c.args.schedule.now) ps c.in-Ok.ensures hs c.args.counts.now c.len-last.result to set_out.0 (omega (arith, c.if-counts-last.false)) c.put-counts.result c.put-counts.new.counts put in
+    let put = c.put_counts.ensures ps hs (up_to_last c.in-Ok-new.walk ps c.len-last.result hs to set_out.1) in
+    let e = tallied_all (schedule_of c.args.schedule.now) ps c.in-Ok.ensures hs c.args.counts.now c.len-last.result to set_out.0 (omega (arith, c.if-counts-last.false)) c.put_counts.result c.put_counts.new.counts put in
     record { answers = λ j. (e j).0; writes = λ j. (e j).1 }

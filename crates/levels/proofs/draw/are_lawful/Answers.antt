@@ -7,12 +7,12 @@ use Rattle.levels.specs.Drawing.{heights_lawful}
 use Rattle.levels.proofs.Sizes.{lawful_next}
 use Rattle.levels.proofs.draw.are_lawful.Goals as goal
 
-pub returns-then-not-is-height : goal.returns-then-not-is-height
-returns-then-not-is-height c =
+pub returns-then-not-is_height : goal.returns-then-not-is_height
+returns-then-not-is_height c =
     let hs = c.args.heights.now in
     let i = c.loop-height.height-index in
     let f : SFits w64 (get_or hs i (pos 0)) = search rules in
-    let e : false ≡ height_lawful (get_or hs i (pos 0)) = simp to_z-of_z at c.if-not-is-height.ensures in
+    let e : false ≡ height_lawful (get_or hs i (pos 0)) = simp to_z-of_z at c.if-not-is_height.ensures in
     sym (lawful_next hs i false c.loop-height-test.true e) ∙ c.loop-height.invariant
 
 pub loop-height-preserved : goal.loop-height-preserved
@@ -20,7 +20,7 @@ loop-height-preserved c =
     let hs = c.args.heights.now in
     let i = c.loop-height.height-index in
     let f : SFits w64 (get_or hs i (pos 0)) = search rules in
-    let e : true ≡ height_lawful (get_or hs i (pos 0)) = simp to_z-of_z at c.if-not-is-height.ensures in
+    let e : true ≡ height_lawful (get_or hs i (pos 0)) = simp to_z-of_z at c.if-not-is_height.ensures in
     sym (lawful_next hs i true c.loop-height-test.true e) ∙ c.loop-height.invariant
 
 pub returns : goal.returns

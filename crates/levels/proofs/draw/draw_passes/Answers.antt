@@ -8,15 +8,15 @@ use Rattle.levels.proofs.Stepping.{product_first}
 use Rattle.levels.proofs.Checking.{passed, first_is, front_is, front_room, drawn_is, places_are}
 use Rattle.levels.proofs.draw.draw_passes.Goals as goal
 
-pub lay-all-requires : goal.lay-all-requires
-lay-all-requires c =
+pub lay_all-requires : goal.lay_all-requires
+lay_all-requires c =
     let ps = c.args.passes.now in
     let k = c.args.k in
     let hs = c.args.profile.now in
     let old = c.args.work.now in
     let new = c.begin.new.work in
     let same = c.begin.ensures in
-    let ok = passed ps k hs (length old) c.in-ok-check.field-0 c.in-ok-check.ensures in
+    let ok = passed ps k hs (length old) c.in_ok-check.field-0 c.in_ok-check.ensures in
     let first = first_is ps k hs old new same in
     record {
       proper = subst (All Proper) (sym first) (All-take Proper k ps c.requires.proper);
@@ -35,6 +35,6 @@ returns c =
     let new = c.begin.new.work in
     let same = c.begin.ensures in
     record {
-      answer = drawn_is ps k hs old new same c.in-ok-check.field-0 c.lay-all.result c.in-ok-check.ensures c.lay-all.ensures.answer;
-      places = places_are ps k hs old new same c.lay-all.new.work c.lay-all.ensures.places;
+      answer = drawn_is ps k hs old new same c.in_ok-check.field-0 c.lay_all.result c.in_ok-check.ensures c.lay_all.ensures.answer;
+      places = places_are ps k hs old new same c.lay_all.new.work c.lay_all.ensures.places;
     }

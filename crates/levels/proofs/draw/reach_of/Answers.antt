@@ -6,8 +6,8 @@ use Rattle.scale_space.proofs.Piles.{reach_le}
 use Rattle.levels.proofs.Stepping.{reach_at}
 use Rattle.levels.proofs.draw.reach_of.Goals as goal
 
-pub overflow-add-fewer : goal.overflow-add-fewer
-overflow-add-fewer c = omega (arith, reach_at c.args.passes.now c.loop-pass.pass-index c.loop-pass-test.true, reach_le c.args.passes.now)
+pub overflow_add-fewer : goal.overflow_add-fewer
+overflow_add-fewer c = omega (arith, reach_at c.args.passes.now c.loop-pass.pass-index c.loop-pass-test.true, reach_le c.args.passes.now)
 
 pub loop-pass-preserved : goal.loop-pass-preserved
 loop-pass-preserved c = omega (arith, reach_at c.args.passes.now c.loop-pass.pass-index c.loop-pass-test.true)

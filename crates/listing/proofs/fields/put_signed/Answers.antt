@@ -8,4 +8,4 @@ pub returns : goal.returns
 returns c =
     let f = c.ranges.n in
     let e = c.in-Ok.ensures in
-    end_put (signed_decimal c.args.n) c.args.out.now c.args.at c.requires c.in-Ok.first c.put-decimal.new.field (simp to_z-of_z at e.place) (simp to_z-of_z at e.bytes)
+    end_put (signed_decimal c.args.n) c.args.out.now c.args.at c.requires c.in-Ok.first c.put_decimal.new.field (simp to_z-of_z at e.place) (simp to_z-of_z at e.bytes)

@@ -9,7 +9,7 @@ pub returns : goal.returns
 returns c =
     let t = c.args.turn in
     let f : SFits w64 t.numerator = search rules in
-    let s : c.signed-width.result ≡ length (signed_decimal t.numerator) = simp to_z-of_z at c.signed-width.ensures.size in
+    let s : c.signed_width.result ≡ length (signed_decimal t.numerator) = simp to_z-of_z at c.signed_width.ensures.size in
     let all = row_length c.args.level t.place t.kind t.numerator in
     record {
       size = omega (arith, all, ap length c.word.ensures.bytes);

@@ -7,7 +7,7 @@ use Rattle.listing.proofs.lines.round_turns.Goals as goal
 pub unreachable-requires : goal.unreachable-requires
 unreachable-requires c =
     let f : SFits w64 (get_or c.loop-turn.turns c.loop-turn.turn-index no_turn).numerator = search rules in
-    round_never c.args.scale c.args.turns.now c.loop-turn.turn-index c.loop-turn.turns c.loop-turn.invariant c.requires.lawful c.requires.small no_turn c.loop-turn-test.true c.in-default.field-0 (simp to_z-of_z at c.in-default.ensures)
+    round_never c.args.scale c.args.turns.now c.loop-turn.turn-index c.loop-turn.turns c.loop-turn.invariant c.requires.lawful c.requires.small no_turn c.loop-turn-test.true c.in_default.field-0 (simp to_z-of_z at c.in_default.ensures)
 
 pub loop-turn-preserved : goal.loop-turn-preserved
 loop-turn-preserved c =

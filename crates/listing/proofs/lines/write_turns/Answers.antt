@@ -9,10 +9,10 @@ use Rattle.listing.proofs.Puts.{answered_as}
 use Rattle.listing.proofs.lines.write_turns.Goals as goal
 
 pub unreachable-requires : goal.unreachable-requires
-unreachable-requires c = found_never c.args.numerators.now 2048 c.requires.short c.in-default.field-0 c.in-default.ensures.answer
+unreachable-requires c = found_never c.args.numerators.now 2048 c.requires.short c.in_default.field-0 c.in_default.ensures.answer
 
-pub write-rounded-requires : goal.write-rounded-requires
-write-rounded-requires c =
+pub write_rounded-requires : goal.write_rounded-requires
+write_rounded-requires c =
     let xs = c.args.numerators.now in
     let part = found_part xs 2048 c.requires.short c.in-Ok.count c.in-Ok.ensures.answer _ c.find.new.table c.in-Ok.ensures.places in
     record {
@@ -26,5 +26,5 @@ returns c =
     let k = c.args.level in
     let xs = c.args.numerators.now in
     let part = found_part xs 2048 c.requires.short c.in-Ok.count c.in-Ok.ensures.answer _ c.find.new.table c.in-Ok.ensures.places in
-    let a = answered_as _ _ c.args.out.now (ap (λ ts. names k ++ flat_map (turn_line k c.args.scale) ts) part) (record { answers = c.write-rounded.ensures.answers; writes = c.write-rounded.ensures.writes }) in
+    let a = answered_as _ _ c.args.out.now (ap (λ ts. names k ++ flat_map (turn_line k c.args.scale) ts) part) (record { answers = c.write_rounded.ensures.answers; writes = c.write_rounded.ensures.writes }) in
     record { answers = a.answers; writes = a.writes }

@@ -6,10 +6,10 @@ use Rattle.samples.proofs.Sizes.{height_fits, height_read}
 use Rattle.samples.proofs.Writing.{written_as}
 use Rattle.samples.proofs.crossings.find.Goals as goal
 
-pub overflow-mul-finder : goal.overflow-mul-finder
-overflow-mul-finder c =
+pub overflow_mul-finder : goal.overflow_mul-finder
+overflow_mul-finder c =
     let f = c.ranges.height in
-    height_fits c.args.height c.args.scale f (sym c.if-not-is-scale.ensures) (sym (simp to_z-of_z at c.if-not-is-height.ensures))
+    height_fits c.args.height c.args.scale f (sym c.if-not-is_scale.ensures) (sym (simp to_z-of_z at c.if-not-is_height.ensures))
 
 pub returns : goal.returns
 returns c =

@@ -18,8 +18,8 @@ bounds-table-next g c =
     let left = put_room _ _ _ _ _ _ _ c.loop-i.invariant.1 (read_some F G c.read.result _ xs i f c.loop-i-test.true c.read.ensures c.in-Some.is) in
     omega (arith, c.requires, c.loop-i.invariant.0, c.loop-i-test.true, left)
 
-pub overflow-add-next : goal.overflow-add-next
-overflow-add-next g c = omega (arith, bounds-table-next g (goal.at.overflow-add-next g c).In-Some)
+pub overflow_add-next : goal.overflow_add-next
+overflow_add-next g c = omega (arith, bounds-table-next g (goal.at.overflow_add-next g c).In-Some)
 
 pub loop-i-preserved : goal.loop-i-preserved
 loop-i-preserved g c =

@@ -10,20 +10,20 @@ pair_some c = divisor_some c.args.pass (Pair c.in-Pair.a c.in-Pair.b) _ c.in-Pai
 triple_some : (c : goal.After-gcd3-g) → 0 < c.gcd3-g.result
 triple_some c = divisor_some c.args.pass (Triple c.in-Triple.a c.in-Triple.b c.in-Triple.c) _ c.in-Triple.is c.gcd3-g.ensures.is c.requires
 
-pub nonzero-div-result : goal.nonzero-div-result
-nonzero-div-result c = pair_some c
+pub nonzero_div-result : goal.nonzero_div-result
+nonzero_div-result c = pair_some c
 
-pub nonzero-div-result-in-Pair : goal.nonzero-div-result-in-Pair
-nonzero-div-result-in-Pair c = pair_some c
+pub nonzero_div-result-in-Pair : goal.nonzero_div-result-in-Pair
+nonzero_div-result-in-Pair c = pair_some c
 
-pub nonzero-div-result-in-Triple : goal.nonzero-div-result-in-Triple
-nonzero-div-result-in-Triple c = triple_some c
+pub nonzero_div-result-in-Triple : goal.nonzero_div-result-in-Triple
+nonzero_div-result-in-Triple c = triple_some c
 
-pub nonzero-div-result-in-Triple-2 : goal.nonzero-div-result-in-Triple-2
-nonzero-div-result-in-Triple-2 c = triple_some c
+pub nonzero_div-result-in-Triple-2 : goal.nonzero_div-result-in-Triple-2
+nonzero_div-result-in-Triple-2 c = triple_some c
 
-pub nonzero-div-result-in-Triple-3 : goal.nonzero-div-result-in-Triple-3
-nonzero-div-result-in-Triple-3 c = triple_some c
+pub nonzero_div-result-in-Triple-3 : goal.nonzero_div-result-in-Triple-3
+nonzero_div-result-in-Triple-3 c = triple_some c
 
 pub returns-in-Pair : goal.returns-in-Pair
 returns-in-Pair c = pair_lowest c.args.pass c.in-Pair.a c.in-Pair.b _ c.in-Pair.is c.gcd-g.ensures.is

@@ -12,7 +12,7 @@ returns c =
     let q = c.args.q in
     let said = c.reduce.ensures in
     record {
-      is = step_is p q _ c.if-q-lt1.false c.if-q-gt-LARGEST-DENOMINATOR.false c.if-p-q.false said.is;
+      is = step_is p q _ c.if-q-lt1.false c.if-q-gt-LARGEST_DENOMINATOR.false c.if-p-q.false said.is;
       proper = said.proper;
       whole = said.whole;
       test = step_test p q;

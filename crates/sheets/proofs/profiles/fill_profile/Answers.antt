@@ -9,11 +9,11 @@ use Rattle.sheets.proofs.profiles.fill_profile.Goals as goal
 
 pub returns : goal.returns
 returns c =
-    let n = c.in-ok-count.count in
-    let table = c.read-heights.new.table in
-    let v = c.in-ok-count.ensures in
+    let n = c.in_ok-count.count in
+    let table = c.read_heights.new.table in
+    let v = c.in_ok-count.ensures in
     let long : length table ≡ 2048 = search rules in
     let room : n ≤ length c.args.heights.now = search rules in
-    let p : profile_of c.args.sheet.now ≡ Ok (take n table) = ap (λ o. goes_on o (walked with_height 0 [])) c.in-ok-rest.ensures ∙ v.1 in
+    let p : profile_of c.args.sheet.now ≡ Ok (take n table) = ap (λ o. goes_on o (walked with_height 0 [])) c.in_ok-rest.ensures ∙ v.1 in
     let a = answer_ok (profile_of c.args.sheet.now) (take n table) c.args.heights.now n p (length-take-le n table (omega arith)) room in
-    record { answers = a.0; writes = (λ i. (c.copy-from-slice.ensures.after ∙ ap (λ m. take m table) (sub-zero n)) i ++ drop (sub-zero n i) c.args.heights.now) ∙ a.1 }
+    record { answers = a.0; writes = (λ i. (c.copy_from_slice.ensures.after ∙ ap (λ m. take m table) (sub-zero n)) i ++ drop (sub-zero n i) c.args.heights.now) ∙ a.1 }

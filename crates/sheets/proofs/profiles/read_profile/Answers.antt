@@ -3,4 +3,4 @@ use Rattle.sheets.proofs.ExactProfiles.{exact_profile}
 use Rattle.sheets.proofs.profiles.read_profile.Goals as goal
 
 pub returns : goal.returns
-returns c = record { answers = c.fill-profile.ensures.answers; writes = c.fill-profile.ensures.writes; exact = exact_profile }
+returns c = record { answers = c.fill_profile.ensures.answers; writes = c.fill_profile.ensures.writes; exact = exact_profile }

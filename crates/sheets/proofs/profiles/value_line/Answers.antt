@@ -8,27 +8,27 @@ use Rattle.sheets.specs.Profiles.{capped_both}
 use Rattle.sheets.proofs.HeightLines.{value_ok, value_left, value_right}
 use Rattle.sheets.proofs.profiles.value_line.Goals as goal
 
-pub returns-in-err-height : goal.returns-in-err-height
-returns-in-err-height c =
-    let p = err_from_is_err_and c.from-residual-in-err-height.result c.from-residual-in-err-height.ensures.1 in
-    let h = c.in-err-height.ensures c.in-Some.rest.now c.args.number c.new-2.ensures in
+pub returns-in_err-height : goal.returns-in_err-height
+returns-in_err-height c =
+    let p = err_from_is_err_and c.from-residual-in_err-height.result c.from-residual-in_err-height.ensures.1 in
+    let h = c.in_err-height.ensures c.in-Some.rest.now c.args.number c.new-2.ensures in
     p.1 ∙ ap Err p.2
     ∙ value_right c.args.line.now c.in-Some.station.now c.in-Some.rest.now c.args.number c.in-Some.ensures.0
-    c.in-err-height.field-0.0 h
+    c.in_err-height.field-0.0 h
 
-pub returns-in-err-station : goal.returns-in-err-station
-returns-in-err-station c =
+pub returns-in_err-station : goal.returns-in_err-station
+returns-in_err-station c =
     let p = err_from_is_err_and c.from-residual.result c.from-residual.ensures.1 in
-    let s = c.in-err-station.ensures c.in-Some.station.now c.args.number c.new.ensures in
+    let s = c.in_err-station.ensures c.in-Some.station.now c.args.number c.new.ensures in
     p.1 ∙ ap Err p.2
     ∙ value_left c.args.line.now c.in-Some.station.now c.in-Some.rest.now c.args.number c.in-Some.ensures.0
-    c.in-err-station.field-0.0 s
+    c.in_err-station.field-0.0 s
 
 pub returns : goal.returns
 returns c =
-    let s = c.in-ok-station.ensures c.in-Some.station.now c.args.number c.new.ensures in
-    let h = c.in-ok-height.ensures c.in-Some.rest.now c.args.number c.new-2.ensures in
-    let f : SFits w64 c.in-ok-height.height = search rules in
-    ap (λ z. Ok (c.in-ok-station.station, z)) (to_z-of_z w64 c.in-ok-height.height f)
+    let s = c.in_ok-station.ensures c.in-Some.station.now c.args.number c.new.ensures in
+    let h = c.in_ok-height.ensures c.in-Some.rest.now c.args.number c.new-2.ensures in
+    let f : SFits w64 c.in_ok-height.height = search rules in
+    ap (λ z. Ok (c.in_ok-station.station, z)) (to_z-of_z w64 c.in_ok-height.height f)
     ∙ value_ok c.args.line.now c.in-Some.station.now c.in-Some.rest.now c.args.number c.in-Some.ensures.0
-    c.in-ok-station.station c.in-ok-height.height s h
+    c.in_ok-station.station c.in_ok-height.height s h

@@ -7,25 +7,25 @@ use Rattle.sheets.specs.ScheduleSheets.{with_pass}
 use Rattle.sheets.proofs.Walks.{walked_more, walked_stop, walked_unended, walked_end}
 use Rattle.sheets.proofs.schedule_sheets.read_passes.Goals as goal
 
-pub returns-in-err-count : goal.returns-in-err-count
-returns-in-err-count c =
+pub returns-in_err-count : goal.returns-in_err-count
+returns-in_err-count c =
     let p = err_from_is_err_and c.from-residual.result c.from-residual.ensures.1 in
     rw (p.1, p.2)
     (sym c.loop-rest.invariant.2
-    ∙ walked_stop with_pass c.loop-rest.count (passes c.loop-rest.built) c.loop-rest.rest.now c.in-Some.line.now c.in-Some.after.now c.in-err-count.field-0.0 c.in-Some.ensures.0 c.in-err-count.ensures)
+    ∙ walked_stop with_pass c.loop-rest.count (passes c.loop-rest.built) c.loop-rest.rest.now c.in-Some.line.now c.in-Some.after.now c.in_err-count.field-0.0 c.in-Some.ensures.0 c.in_err-count.ensures)
 
-pub returns-in-default : goal.returns-in-default
-returns-in-default c =
+pub returns-in_default : goal.returns-in_default
+returns-in_default c =
     let some : 0 < length c.loop-rest.rest.now = search rules in
     sym c.loop-rest.invariant.2
-    ∙ walked_unended with_pass c.loop-rest.count (passes c.loop-rest.built) c.loop-rest.rest.now c.in-default.ensures some
+    ∙ walked_unended with_pass c.loop-rest.count (passes c.loop-rest.built) c.loop-rest.rest.now c.in_default.ensures some
 
 pub loop-rest-preserved : goal.loop-rest-preserved
 loop-rest-preserved c =
     let k = c.loop-rest.count in
-    let n = c.in-ok-count.count in
-    let built = passes c.add-line.new.schedule in
-    let h = c.in-ok-count.ensures in
+    let n = c.in_ok-count.count in
+    let built = passes c.add_line.new.schedule in
+    let h = c.in_ok-count.ensures in
     let next : n ≡ k + 1 = h.1 ∙ ap (λ m. m + 1) (sym c.loop-rest.invariant.1) in (
       h.3,
       h.2,

@@ -5,8 +5,8 @@ use Rattle.std.proofs.lemmas.Bool.Decides.{not_from_Decides, Decides-eqb}
 use Rattle.sheets.proofs.Walks.{opened_one, opened_same, opened_other}
 use Rattle.sheets.proofs.tokens.after_names.Goals as goal
 
-pub returns-in-default : goal.returns-in-default
-returns-in-default c = opened_one c.args.names.now c.args.sheet.now (search rules) c.in-default.ensures
+pub returns-in_default : goal.returns-in_default
+returns-in_default c = opened_one c.args.names.now c.args.sheet.now (search rules) c.in_default.ensures
 
 pub returns-then-eq : goal.returns-then-eq
 returns-then-eq c =

@@ -10,8 +10,8 @@ pub returns : goal.returns
 returns c =
     let ps = passes c.args.schedule.now in
     let out = c.args.out.now in
-    let e = c.write-passes.ensures in
-    let is = c.as-slice.ensures.value in
-    let a : c.write-passes.result ≡ (answer (Ok (schedule_sheet ps)) out).0 = e.answers ∙ ap (λ q. (answer (Ok (schedule_sheet q)) out).0) is in
-    let w : c.write-passes.new.out ≡ (answer (Ok (schedule_sheet ps)) out).1 = e.writes ∙ ap (λ q. (answer (Ok (schedule_sheet q)) out).1) is in
-    record { answers = a; writes = w; back = read_back ps out c.write-passes.new.out c.write-passes.result c.as-slice.ensures.standing a w; exact = exact_schedule }
+    let e = c.write_passes.ensures in
+    let is = c.as_slice.ensures.value in
+    let a : c.write_passes.result ≡ (answer (Ok (schedule_sheet ps)) out).0 = e.answers ∙ ap (λ q. (answer (Ok (schedule_sheet q)) out).0) is in
+    let w : c.write_passes.new.out ≡ (answer (Ok (schedule_sheet ps)) out).1 = e.writes ∙ ap (λ q. (answer (Ok (schedule_sheet q)) out).1) is in
+    record { answers = a; writes = w; back = read_back ps out c.write_passes.new.out c.write_passes.result c.as_slice.ensures.standing a w; exact = exact_schedule }

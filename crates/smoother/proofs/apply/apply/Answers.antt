@@ -7,7 +7,7 @@ use Rattle.smoother.proofs.apply.apply.Goals as goal
 pub returns : goal.returns
 returns g c =
     let s = c.args.s.now in
-    let same : c.as-slice.result.now ≡ g.S.Smoother.taps s = c.as-slice.ensures ∙ c.show-taps.ensures in
+    let same : c.as_slice.result.now ≡ g.S.Smoother.taps s = c.as_slice.ensures ∙ c.show-taps.ensures in
     record {
       answer = applied_as _ _ _ _ _ same c.lay.ensures.answer;
       places = written_as _ _ _ c.args.out.now _ c.lay.result same c.lay.ensures.places;

@@ -10,7 +10,7 @@ use Rattle.smoother.proofs.apply.lay.Goals as goal
 pub dot-requires : goal.dot-requires
 dot-requires c =
     let xs = c.args.samples.now in
-    let all : weighable (scale c.args.taps.now) xs ≡ true = ap (λ s. weighable s xs) (sym c.sum.ensures) ∙ sym c.if-not-all-weighable.ensures in
+    let all : weighable (scale c.args.taps.now) xs ≡ true = ap (λ s. weighable s xs) (sym c.sum.ensures) ∙ sym c.if-not-all_weighable.ensures in
     record {
       long = window_length c.args.taps.now xs c.loop-i.i _ (omega arith) (omega arith);
       heavy = c.requires.heavy;
@@ -26,7 +26,7 @@ loop-i-preserved c =
 pub returns : goal.returns
 returns c =
     let xs = c.args.samples.now in
-    let all : weighable (scale c.args.taps.now) xs ≡ true = ap (λ s. weighable s xs) (sym c.sum.ensures) ∙ sym c.if-not-all-weighable.ensures in
+    let all : weighable (scale c.args.taps.now) xs ≡ true = ap (λ s. weighable s xs) (sym c.sum.ensures) ∙ sym c.if-not-all_weighable.ensures in
     record {
       answer = applied_all c.args.taps.now xs (length c.args.out.now) _ (omega arith) (omega arith) (omega arith) all;
       places = written_all c.args.taps.now xs c.args.out.now c.requires.some c.loop-i.i _ c.loop-i.out (omega arith) (omega arith) c.loop-i.invariant;

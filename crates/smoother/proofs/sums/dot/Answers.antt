@@ -4,16 +4,16 @@ use Rattle.smoother.proofs.Dots.{weighed_none, tap_product_fits, tap_total_fits,
 use Rattle.smoother.proofs.Totals.{tap_most}
 use Rattle.smoother.proofs.sums.dot.Goals as goal
 
-pub overflow-cast-total : goal.overflow-cast-total
-overflow-cast-total c = record { sfits = omega (arith, tap_most c.args.taps.now c.loop-i.i, c.requires.light) }
+pub overflow_cast-total : goal.overflow_cast-total
+overflow_cast-total c = record { sfits = omega (arith, tap_most c.args.taps.now c.loop-i.i, c.requires.light) }
 
-pub overflow-mul-total : goal.overflow-mul-total
-overflow-mul-total c =
+pub overflow_mul-total : goal.overflow_mul-total
+overflow_mul-total c =
     let f : SFits w64 (get_or c.args.samples.now c.loop-i.i (pos 0)) = search rules in
     tap_product_fits _ _ _ _ c.requires.long c.requires.heavy c.requires.light c.requires.small c.loop-i.invariant c.loop-i-test.true f
 
-pub overflow-add-total : goal.overflow-add-total
-overflow-add-total c =
+pub overflow_add-total : goal.overflow_add-total
+overflow_add-total c =
     let f : SFits w64 (get_or c.args.samples.now c.loop-i.i (pos 0)) = search rules in
     tap_total_fits _ _ _ _ c.requires.long c.requires.heavy c.requires.light c.requires.small c.loop-i.invariant c.loop-i-test.true f
 

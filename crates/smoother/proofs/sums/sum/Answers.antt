@@ -3,8 +3,8 @@ use Rattle.std.proofs.Common.{arith}
 use Rattle.smoother.proofs.Totals.{scale_more, scale_none}
 use Rattle.smoother.proofs.sums.sum.Goals as goal
 
-pub overflow-add-total : goal.overflow-add-total
-overflow-add-total c = record { fits = omega (arith, scale_more c.args.taps.now c.loop-tap.tap-index c.loop-tap-test.true) }
+pub overflow_add-total : goal.overflow_add-total
+overflow_add-total c = record { fits = omega (arith, scale_more c.args.taps.now c.loop-tap.tap-index c.loop-tap-test.true) }
 
 pub loop-tap-preserved : goal.loop-tap-preserved
 loop-tap-preserved c = omega (arith, scale_more c.args.taps.now c.loop-tap.tap-index c.loop-tap-test.true)

@@ -3,13 +3,13 @@ use Rattle.std.proofs.Common.{◌≡◌, ◌*◌, ap₂, arith}
 use Rattle.smoother.proofs.Totals.{part, part_more, part_most, part_all}
 use Rattle.smoother.proofs.sums.tap.Goals as goal
 
-pub overflow-mul-total : goal.overflow-mul-total
-overflow-mul-total c =
+pub overflow_mul-total : goal.overflow_mul-total
+overflow_mul-total c =
     let h : c.at.result * c.at-in-loop-i.result ≡ part c.args.p.now c.args.q.now c.args.place c.loop-i.i = ap₂ ◌*◌ c.at.ensures c.at-in-loop-i.ensures in
     record { fits = omega (arith, part_most c.args.p.now c.args.q.now c.args.place c.loop-i.i (omega arith) c.requires.0) }
 
-pub overflow-add-total : goal.overflow-add-total
-overflow-add-total c =
+pub overflow_add-total : goal.overflow_add-total
+overflow_add-total c =
     let h : c.at.result * c.at-in-loop-i.result ≡ part c.args.p.now c.args.q.now c.args.place c.loop-i.i = ap₂ ◌*◌ c.at.ensures c.at-in-loop-i.ensures in
     record { fits = omega (arith, part_most c.args.p.now c.args.q.now c.args.place c.loop-i.i (omega arith) c.requires.0) }
 

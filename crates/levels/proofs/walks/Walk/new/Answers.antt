@@ -7,12 +7,12 @@ use Rattle.levels.proofs.walks.Walk.new.Goals as goal
 use Rattle.levels.proofs.walks.Walk.new.Goals.{After-begin}
 
 lets : (c : goal.After-begin) → allowed (passes c.args.schedule.now) c.args.last c.args.profile.now (length c.args.profile.now) ≡ Ok tt
-lets c = sym (c.in-ok-check.ensures ∙ ap (λ ps. allowed ps c.args.last c.args.profile.now (length c.args.profile.now)) c.as-slice.ensures.value)
+lets c = sym (c.in_ok-check.ensures ∙ ap (λ ps. allowed ps c.args.last c.args.profile.now (length c.args.profile.now)) c.as_slice.ensures.value)
 
-pub invariant-of-result : goal.invariant-of-result
-invariant-of-result c =
+pub invariant_of-result : goal.invariant_of-result
+invariant_of-result c =
     let full : length c.begin.new.work ≡ 2048 = search rules in
-    begun_sound c.args.schedule.now c.args.last c.args.profile.now (lets (goal.at.invariant-of-result c).After-begin) _ c.begin.new.work c.begin.ensures full
+    begun_sound c.args.schedule.now c.args.last c.args.profile.now (lets (goal.at.invariant_of-result c).After-begin) _ c.begin.new.work c.begin.ensures full
 
 pub returns : goal.returns
 returns c =

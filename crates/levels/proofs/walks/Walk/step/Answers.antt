@@ -7,20 +7,20 @@ pub lay-to-requires : goal.lay-to-requires
 lay-to-requires c =
     let w = c.args.self.now in
     let more = c.if-self.false in
-    let ps = c.as-slice.result.now in
-    let same = c.as-slice.ensures.value in
+    let ps = c.as_slice.result.now in
+    let same = c.as_slice.ensures.value in
     record { long = pass_long w more ps same; room = omega (arith, w.short, w.full); light = pass_light w more ps same; bounded = pass_bounded w more ps same }
 
-pub invariant-of-self : goal.invariant-of-self
-invariant-of-self c =
+pub invariant_of-self : goal.invariant_of-self
+invariant_of-self c =
     let w = c.args.self.now in
     let l = c.lay-to.ensures in
     let full : length c.lay-to.new.work ≡ length w.samples = search rules in
-    pass_sound w c.if-self.false c.as-slice.result.now c.as-slice.ensures.value c.lay-to.result c.lay-to.new.work l.shorter l.larger l.places full
+    pass_sound w c.if-self.false c.as_slice.result.now c.as_slice.ensures.value c.lay-to.result c.lay-to.new.work l.shorter l.larger l.places full
 
 pub returns : goal.returns
 returns c =
     let w = c.args.self.now in
     let l = c.lay-to.ensures in
-    let stepped = pass_stepped w c.if-self.false c.as-slice.result.now c.as-slice.ensures.value c.lay-to.result c.lay-to.new.work l.shorter l.larger l.places in
+    let stepped = pass_stepped w c.if-self.false c.as_slice.result.now c.as_slice.ensures.value c.lay-to.result c.lay-to.new.work l.shorter l.larger l.places in
     record { is = stepped _ refl refl refl refl; climbs = climbs w _ true (stepped _ refl refl refl refl) }

@@ -27,8 +27,8 @@ whole c =
     moving_all t.records c.loop-i.records c.loop-i.i c.args.place t.len (single c.args.prime) t.full
     (omega (arith, t.some, c.requires.room)) (omega (arith, c.loop-i-test.false, c.loop-i.invariant.1)) c.loop-i.invariant.0
 
-pub invariant-of-self : goal.invariant-of-self
-invariant-of-self c =
+pub invariant_of-self : goal.invariant_of-self
+invariant_of-self c =
     let t = c.args.self.now in
     let r = single c.args.prime in
     let n = counted_inserted (entries t) c.args.place r in

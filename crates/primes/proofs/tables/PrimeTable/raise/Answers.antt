@@ -7,13 +7,13 @@ use Rattle.primes.specs.Entries.{entries}
 use Rattle.primes.proofs.Standing.{length_entries, held, raised_is, count_small, counted_raised}
 use Rattle.primes.proofs.tables.PrimeTable.raise.Goals as goal
 
-pub overflow-add-line : goal.overflow-add-line
-overflow-add-line c =
+pub overflow_add-line : goal.overflow_add-line
+overflow_add-line c =
     let t = c.args.self.now in
     omega (arith, count_small t c.args.place (omega (arith, c.requires.place, length_entries t)))
 
-pub invariant-of-self : goal.invariant-of-self
-invariant-of-self c =
+pub invariant_of-self : goal.invariant_of-self
+invariant_of-self c =
     let t = c.args.self.now in
     let k = c.args.place in
     let n = counted_raised (entries t) k c.requires.place in

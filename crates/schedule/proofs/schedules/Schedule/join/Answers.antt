@@ -10,8 +10,8 @@ use Rattle.schedule.proofs.Standing.{length_joined, standing_joined, held, ends_
 use Rattle.schedule.proofs.schedules.Schedule.join.Goals as goal
 use Rattle.schedule.proofs.schedules.Schedule.join.Goals.{After-loop-i}
 
-pub returns-then-end-gt-MOST-PASSES : goal.returns-then-end-gt-MOST-PASSES
-returns-then-end-gt-MOST-PASSES c =
+pub returns-then-end-gt-MOST_PASSES : goal.returns-then-end-gt-MOST_PASSES
+returns-then-end-gt-MOST_PASSES c =
     let s = c.args.self.now in
     let t = c.args.second.now in
     ends_many (passes s) (passes s ++ passes t) (omega (arith, length_joined s t))
@@ -46,8 +46,8 @@ sound c =
     let t = c.args.second.now in
     standing_joined s t (omega arith) (omega (arith, product_of_append (passes s) (passes t) c.scale.ensures c.scale-2.ensures))
 
-pub invariant-of-self : goal.invariant-of-self
-invariant-of-self c =
+pub invariant_of-self : goal.invariant_of-self
+invariant_of-self c =
     let s = c.args.self.now in
     let t = c.args.second.now in
     held c.loop-i.items (s.len + t.len) (passes s ++ passes t) (whole c).0 (omega arith) (whole c).1 (sound c)

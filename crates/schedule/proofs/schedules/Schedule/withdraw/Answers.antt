@@ -26,8 +26,8 @@ loop-i-preserved c =
 closed : (c : goal.After-loop-i) → take (c.args.self.now.len - 1) c.loop-i.items ≡ remove (passes c.args.self.now) c.args.place
 closed c = shifting_all c.args.self.now.items c.loop-i.items c.loop-i.i c.args.place c.args.self.now.len (omega arith) (omega arith) (omega arith) c.loop-i.invariant
 
-pub invariant-of-self : goal.invariant-of-self
-invariant-of-self c =
+pub invariant_of-self : goal.invariant_of-self
+invariant_of-self c =
     let s = c.args.self.now in
     let place = c.args.place in
     let l : place < length (passes s) = omega (arith, length_passes s) in

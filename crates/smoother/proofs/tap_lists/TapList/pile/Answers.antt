@@ -10,13 +10,13 @@ use Rattle.smoother.proofs.tap_lists.TapList.pile.Goals as goal
 pub tap-requires : goal.tap-requires
 tap-requires c =
     let place : c.loop-i.i ≤ 49 = omega (arith, shown_length c.args.self.now, shown_length c.args.other.now) in
-    simp (c.as-slice.ensures, c.as-slice-in-loop-i.ensures) (c.requires.light, place)
+    simp (c.as_slice.ensures, c.as_slice-in-loop-i.ensures) (c.requires.light, place)
 
 pub loop-i-preserved : goal.loop-i-preserved
 loop-i-preserved c =
     let p = shown c.args.self.now in
     let q = shown c.args.other.now in
-    let here : c.tap.result ≡ get_or (conv p q) c.loop-i.i 0 = c.tap.ensures ∙ ap₂ (λ us vs. get_or (conv us vs) c.loop-i.i 0) c.as-slice.ensures c.as-slice-in-loop-i.ensures in
+    let here : c.tap.result ≡ get_or (conv p q) c.loop-i.i 0 = c.tap.ensures ∙ ap₂ (λ us vs. get_or (conv us vs) c.loop-i.i 0) c.as_slice.ensures c.as_slice-in-loop-i.ensures in
     let lp = shown_length c.args.self.now in
     let lq = shown_length c.args.other.now in
     let size = length_conv p q c.requires.some.0 c.requires.some.1 in

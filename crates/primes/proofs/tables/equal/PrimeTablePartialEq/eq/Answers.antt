@@ -7,4 +7,4 @@ use Rattle.std.proofs.lemmas.Bool.Decides.{Decides-eqb}
 pub returns : goal.returns
 returns c =
     let h = slice_eq-Decides Decides-eqb _ _ _ c.eq.ensures in
-    subst₂ (λ xs ys. Decides c.eq.result (xs ≡ ys)) c.as-slice.ensures c.as-slice-2.ensures h
+    subst₂ (λ xs ys. Decides c.eq.result (xs ≡ ys)) c.as_slice.ensures c.as_slice-2.ensures h
