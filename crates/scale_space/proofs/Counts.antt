@@ -1,6 +1,6 @@
 -- The turns are as many as the sign changes of the differences, and the crossings of h as those of the samples less h.
 use Rattle.std.proofs.Common.{◌≡◌, ℕ, suc, ◌+◌, List, [], ◌∷◌, map, length, ℤ, ◌-ℤ◌, sym, refl, ap, ◌∙◌, arith}
-use Rattle.scale_space.specs.Signs.{Sign, below, level, above, sign, side, clash, keep, nonzero, opposites, changes, differences}
+use Rattle.scale_space.specs.Signs.{Sign, below, level, above, side, clash, keep, nonzero, opposites, changes, differences}
 use Rattle.scale_space.specs.declared.turns.Turn.{Turn}
 use Rattle.scale_space.specs.declared.crossings.Crossing.{Crossing}
 use Rattle.scale_space.specs.Turns.{Spot, spot, flats_after, flats, turning, turns_of, turns}

@@ -1,9 +1,8 @@
 -- The crossings of a list are those that Crosses describes.
-use Rattle.std.proofs.Common.{◌≡◌, ℕ, zero, suc, ◌+◌, ◌<◌, ◌⊎◌, List, [], ◌∷◌, length, get_or, ℤ, pos, negsuc, ◌-ℤ◌, ◌<ℤ◌, sym, refl, ap, ◌∙◌, subst, subst₂, inl, inr, arith}
+use Rattle.std.proofs.Common.{◌≡◌, ℕ, zero, suc, ◌+◌, ◌<◌, ◌⊎◌, List, [], ◌∷◌, length, get_or, ℤ, sym, refl, ap, ◌∙◌, subst, subst₂, inl, inr, arith}
 use mathlib.Core.List.Memᴰ
 use mathlib.Core.List.{Memᴰ}
 use lib.IntN.{+ℤ_invr}
-use borrow.Author.Differences.{ints, up, down}
 use Rattle.scale_space.specs.Signs.{Sign, below, level, above, sign, side, keep}
 use Rattle.scale_space.specs.declared.crossings.Crossing.{Crossing}
 use Rattle.scale_space.specs.declared.crossings.Direction.{Direction}

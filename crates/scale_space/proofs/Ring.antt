@@ -1,5 +1,5 @@
 -- Ring laws of the whole numbers that lib.IntN lacks.
-use Rattle.std.proofs.Common.{◌≡◌, ℕ, ◌+◌, ◌*◌, ℤ, pos, ◌+ℤ◌, ◌-ℤ◌, ◌*ℤ◌, neg_ℤ, sym, refl, ap, ◌∙◌, arith}
+use Rattle.std.proofs.Common.{◌≡◌, ℕ, ◌+◌, ◌*◌, ℤ, pos, ◌+ℤ◌, ◌-ℤ◌, ◌*ℤ◌, neg_ℤ, sym, ap, ◌∙◌, arith}
 use lib.IntN.{*ℤ_comm}
 use borrow.Author.Differences.{up, down, same_in, sum_is_lem, neg_is, product_is}
 

@@ -1,10 +1,10 @@
 -- The primes that passes are made of.
-use Rattle.std.specs.Prelude.{◌≡◌, ℕ, ◌+◌, ◌-◌, ◌*◌, ◌<◌, ◌≤◌, Bool, true, false, cond, ◌&&◌, List, [], ◌∷◌, ◌==◌, ◌≢◌, nat_le}
+use Rattle.std.specs.Prelude.{◌≡◌, ℕ, ◌+◌, ◌-◌, ◌*◌, ◌<◌, ◌≤◌, Bool, false, cond, ◌&&◌, List, [], ◌∷◌, ◌==◌, ◌≢◌, nat_le}
 use Rattle.std.specs.List.{flat_map, AllByRecursion as All}
 use Rattle.scale_space.specs.declared.passes.Pass.{Pass}
 use Rattle.scale_space.specs.declared.passes.Pass.TheVariants.{Pair, Triple}
 use Rattle.scale_space.specs.Divisors.{largest, Reduced}
-use Rattle.scale_space.specs.Passes.{weights, lowest, taps}
+use Rattle.scale_space.specs.Passes.{lowest, taps}
 
 -- the largest whole number whose square is not above d
 unfoldable pub root : ℕ → ℕ
