@@ -1,6 +1,6 @@
 -- From one level to the next: shape, sizes, and what the buffer holds.
 use Rattle.std.proofs.Common.{◌≡◌, ℕ, zero, suc, ◌+◌, ◌-◌, ◌*◌, ◌^◌, ◌<◌, ◌≤◌, true, List, [], ◌∷◌, length, get_or, take, drop, ℤ, pos, negsuc, sym, refl, ap, ◌∙◌, subst, ap₂, mul-le-mul_left, arith}
-use Rattle.std.specs.List.{AllByRecursion as All}
+use Rattle.std.specs.List.{AllByRecursion}
 use Rattle.std.proofs.ByRecursion.{All-drop}
 use Rattle.std.proofs.lemmas.List.{at_drop_more, length-take-le}
 use Rattle.std.proofs.lemmas.List.Sums.{fold_more}
@@ -38,7 +38,7 @@ product_split (suc i) (p ∷ ps) = omega (arith, ap (λ z. scale (weights p) * z
 product_at : (ps : List Pass) (i : ℕ) → i < length ps → product (drop i ps) ≡ scale (weights (pass_at ps i)) * product (drop (i + 1) ps)
 product_at ps i h = at_drop_more product ps i (Pair 0 0) h
 
-pub product_first : (k : ℕ) (ps : List Pass) → All Proper ps → product (take k ps) ≤ product ps
+pub product_first : (k : ℕ) (ps : List Pass) → AllByRecursion Proper ps → product (take k ps) ≤ product ps
 product_first k ps proper = omega (arith, product_split k ps, mul-le-mul_left (product (take k ps)) (product_some (drop k ps) (All-drop Proper k ps proper)))
 
 part_le : (a s r whole : ℕ) → 0 < r → a * (s * r) ≡ whole → a * s ≤ whole
@@ -51,7 +51,7 @@ pass_count (Triple a b c) xs h = omega (arith, windows_length a (b ∷ c ∷ [])
 -- ---- pass i on the level that the first i left
 -- the passes ps can all be laid on the first n heights of old
 pub record Ready (ps : List Pass) (n : ℕ) (old : List ℤ) : Type 0 where
-  pub proper : All Proper ps
+  pub proper : AllByRecursion Proper ps
   pub bounded : product ps ≤ 2 ^ 40
   pub room : n ≤ length old
   pub long : reach ps < n

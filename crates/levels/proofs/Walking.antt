@@ -1,6 +1,6 @@
 -- Walks: what the passes ahead still allow, and what one of them leaves.
 use Rattle.std.proofs.Common.{◌≡◌, ℕ, ◌+◌, ◌*◌, ◌^◌, ◌<◌, ◌≤◌, Bool, true, List, ◌∷◌, ◌++◌, length, get_or, take, drop, ℤ, pos, negsuc, Ok, sym, refl, ap, ◌∙◌, subst, ap₂, mul-le-mul_left, mul-pos, arith}
-use Rattle.std.specs.List.{AllByRecursion as All}
+use Rattle.std.specs.List.{AllByRecursion}
 use Rattle.std.proofs.ByRecursion.{All-take, All-drop}
 use Rattle.std.proofs.lemmas.List.{drop_more, get_or-take, length-take-le}
 use Rattle.std.proofs.lemmas.List.Sums.{fold_more}
@@ -56,7 +56,7 @@ module _ (sched : Schedule) (last : ℕ) (hs : List ℤ) (ok : allowed (passes s
 abbrev way : Walk → List Pass
 way w = take w.last (passes w.schedule)
 
-way_proper : (w : Walk) → All Proper (way w)
+way_proper : (w : Walk) → AllByRecursion Proper (way w)
 way_proper w = All-take Proper w.last (passes w.schedule) (standing w.schedule).each
 
 -- from a level on their scales have room
@@ -84,7 +84,7 @@ module _ (w : Walk) (more : w.level < w.last) (ps : List Pass) (same : ps ≡ pa
   first = drop_more (way w) w.level (Pair 0 0) within ∙ ap (λ q. q ∷ drop (w.level + 1) (way w)) (get_or-take w.last (passes w.schedule) w.level (Pair 0 0) more ∙ sym is)
 
   proper : Proper p
-  proper = let all : All Proper (p ∷ drop (w.level + 1) (way w)) = rw first at (All-drop Proper w.level (way w) (way_proper w)) in all.0
+  proper = let all : AllByRecursion Proper (p ∷ drop (w.level + 1) (way w)) = rw first at (All-drop Proper w.level (way w) (way_proper w)) in all.0
 
   pub pass_long : length (weights p) ≤ w.count
   pass_long = omega (arith, w.long, ap reach first, weights_some p)

@@ -1,6 +1,6 @@
 -- What draw answers, and what its work buffer holds afterwards.
 use Rattle.std.specs.Prelude.{ℕ, ◌-◌, ◌*◌, ◌^◌, ◌≤◌, Bool, true, cond, ◌&&◌, List, [], ◌∷◌, ◌++◌, length, take, drop, replicate, ℤ, pos, Ok, Err, Result, nat_le, nat_lt, unsigned_abs}
-use Rattle.std.specs.List.{AllByRecursion as All}
+use Rattle.std.specs.List.{AllByRecursion}
 use Rattle.scale_space.specs.declared.passes.Pass.{Pass}
 use Rattle.scale_space.specs.Levels.{Level}
 use Rattle.scale_space.specs.Passes.{reach, level}
@@ -49,4 +49,4 @@ worked (Err e) n xs old = old
 
 -- so small that weights with the sum s, laid on them, stay far within 64 bits
 abbrev pub Light : ℕ → List ℤ → Type 0
-Light s xs = All (λ x. s * unsigned_abs x ≤ 2 ^ 60) xs
+Light s xs = AllByRecursion (λ x. s * unsigned_abs x ≤ 2 ^ 60) xs

@@ -1,6 +1,6 @@
 //! The drawing of a level.
 ghost use Rattle.std.specs.Prelude.{◌≡◌, ◌+◌, ◌-◌, ◌*◌, ◌^◌, ◌<◌, ◌≤◌, true, List, [], ◌∷◌, ◌++◌, length, take, drop, ℤ, pos, ◌+ℤ◌, ◌*ℤ◌, unsigned_abs};
-ghost use Rattle.std.specs.List.{AllByRecursion as All};
+ghost use Rattle.std.specs.List.{AllByRecursion};
 ghost use Rattle.scale_space.specs.Taps.{windows, scale};
 ghost use Rattle.scale_space.specs.Passes.{weights, Proper, reach, product, level};
 ghost use Rattle.scale_space.specs.Laws.{Calm};
@@ -159,7 +159,7 @@ pub(crate) fn lay(pass: Pass, last: Drawn, work: &mut [i64]) -> Drawn
 
 /// Lays all the passes on the n heights that `work` begins with.
 fn lay_all(passes: &[Pass], work: &mut [i64], n: usize) -> Drawn
-    requires proper { All Proper passes.now }
+    requires proper { AllByRecursion Proper passes.now }
     requires bounded { product passes.now ≤ 2 ^ 40 }
     requires room { n ≤ length work.old }
     requires long { reach passes.now < n }
@@ -185,7 +185,7 @@ fn draw_passes(
     work: &mut [i64],
 ) -> Result<Drawn, Refusal>
     requires short { length passes.now ≤ 24 }
-    requires proper { All Proper passes.now }
+    requires proper { AllByRecursion Proper passes.now }
     requires bounded { product passes.now ≤ 2 ^ 40 }
     ensures answer { result ≡ drawn passes.now k profile.now (length work.old) }
     ensures places { work.new ≡ worked result (length profile.now) (level (take k passes.now) profile.now).numerators work.old }

@@ -2,7 +2,7 @@
 use Rattle.std.proofs.Common.{◌≡◌, ℕ, suc, ◌+◌, ◌*◌, ◌<◌, ◌≤◌, Bool, true, false, cond, eqb, List, [], ◌∷◌, length, ℤ, pos, negsuc, nat_abs, ◌≤ℤ◌, codes, arith}
 use borrow.Author.Differences.{product_is, ints}
 use Rattle.std.specs.Fmt.{signed_decimal}
-use Rattle.std.specs.List.{flat_map, AllByRecursion as All}
+use Rattle.std.specs.List.{flat_map, AllByRecursion}
 use Rattle.std.proofs.lemmas.Fmt.{length-decimal-le}
 use Rattle.std.proofs.ByRecursion.{All-weaker}
 use Rattle.std.proofs.lemmas.List.{length-append}
@@ -51,7 +51,7 @@ names_small k = go (eqb k 0)
     go true = omega arith
     go false = omega arith
 
-joined_small : {X : Type 0} (line : X → List ℕ) (m : ℕ) (xs : List X) → All (λ x. length (line x) ≤ m) xs → length (flat_map line xs) ≤ m * length xs
+joined_small : {X : Type 0} (line : X → List ℕ) (m : ℕ) (xs : List X) → AllByRecursion (λ x. length (line x) ≤ m) xs → length (flat_map line xs) ≤ m * length xs
 joined_small line m [] h = omega arith
 joined_small line m (x ∷ xs) h = omega (arith, length-append (line x) (flat_map line xs), h.0, joined_small line m xs h.1)
 
@@ -61,7 +61,7 @@ listing_bound k l few short lawful fits =
     let xs = l.numerators in
     let s = l.scale in
     let some : 0 < s = omega (arith, leb-true 1 s (and_parts _ _ lawful).0) in
-    let each : All (λ t. length (turn_line k s t) ≤ 23) (turns xs) =
+    let each : AllByRecursion (λ t. length (turn_line k s t) ≤ 23) (turns xs) =
     All-weaker (λ t. (t.place < length xs) × (nat_abs t.numerator ≤ 100000 * s)) (λ t. length (turn_line k s t) ≤ 23)
     (λ t h. row_small k t.place t.kind (rounded s t.numerator) few (omega (arith, h.0)) (rounded_small s t.numerator some h.1)) (turns xs) (turns_each _ xs (all_fit s xs fits)) in
     omega (arith, length-append (names k) (flat_map (turn_line k s) (turns xs)), names_small k, joined_small (turn_line k s) 23 (turns xs) each, turns_few xs)

@@ -1,7 +1,7 @@
 -- The turns of samples in a table with a place for each sample.
 use Rattle.std.proofs.Common.{◌≡◌, ℕ, ◌-◌, ◌≤◌, true, List, ◌++◌, length, take, drop, ℤ, Ok, Err, Result, sym, ◌∙◌, arith}
 use native.Mathlib.Nat.{sub-zero}
-use Rattle.std.specs.List.{AllByRecursion as All}
+use Rattle.std.specs.List.{AllByRecursion}
 use Rattle.std.proofs.ByRecursion.{All-weaker}
 use Rattle.std.proofs.lemmas.List.{take_at}
 use Rattle.std.proofs.lemmas.Bool.{le-leb, cond-true}
@@ -12,7 +12,7 @@ use Rattle.samples.specs.Answers.{listed, heights_fit}
 use Rattle.listing.proofs.RoundedTurns.{Small}
 use Rattle.listing.proofs.Turning.{turns_few, turns_each, all_fit}
 
-pub turns_small : (s : ℕ) (xs : List ℤ) → heights_fit s xs ≡ true → All (Small s) (turns xs)
+pub turns_small : (s : ℕ) (xs : List ℤ) → heights_fit s xs ≡ true → AllByRecursion (Small s) (turns xs)
 turns_small s xs e = All-weaker _ (Small s) (λ t h. h.1) (turns xs) (turns_each _ xs (all_fit s xs e))
 
 module _ (xs : List ℤ) (room : ℕ) (enough : length xs ≤ room) where

@@ -1,6 +1,6 @@
 -- Turns whose numerators are replaced by their rounded heights, one after another.
 use Rattle.std.proofs.Common.{◌≡◌, ℕ, ◌+◌, ◌-◌, ◌*◌, ◌<◌, ◌≤◌, true, List, [], ◌∷◌, ◌++◌, map, length, get_or, take, drop, set, ℤ, pos, nat_abs, Ok, Err, Result, sym, refl, ap, ◌∙◌, subst, append-nil, arith}
-use Rattle.std.specs.List.{flat_map, AllByRecursion as All}
+use Rattle.std.specs.List.{flat_map, AllByRecursion}
 use Rattle.std.proofs.lemmas.List.Edits.{map_over_more}
 use Rattle.std.proofs.ByRecursion.{All-get_or}
 use Rattle.std.proofs.lemmas.List.{length-append, length-drop, length-map, length-take-le, get_or_default, get_or-drop, get_or-append_right, take_all, drop_all}
@@ -28,7 +28,7 @@ abbrev pub RoundedSoFar : ℕ → List Turn → ℕ → List Turn → Type 0
 RoundedSoFar s was i turns = turns ≡ map (turn_rounded s) (take i was) ++ drop i was
 
 module _ (s : ℕ) (was : List Turn) (i : ℕ) (turns : List Turn) (inv : RoundedSoFar s was i turns) where
-  module _ (lawful : scale_lawful s ≡ true) (small : All (Small s) was) (d : Turn) (l : i < length was) where
+  module _ (lawful : scale_lawful s ≡ true) (small : AllByRecursion (Small s) was) (d : Turn) (l : i < length was) where
     front : length (map (turn_rounded s) (take i was)) ≡ i
     front = length-map (take i was) (turn_rounded s) ∙ length-take-le i was (omega arith)
 

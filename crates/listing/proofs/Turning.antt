@@ -1,6 +1,6 @@
 -- The turns of samples: never more than there are samples, and each with a sample's place and numerator.
 use Rattle.std.proofs.Common.{◌≡◌, ℕ, suc, ◌+◌, ◌*◌, ◌<◌, ◌≤◌, true, List, [], ◌∷◌, length, ℤ, nat_abs, arith}
-use Rattle.std.specs.List.{AllByRecursion as All}
+use Rattle.std.specs.List.{AllByRecursion}
 use Rattle.std.proofs.lemmas.Bool.{leb-true, and_parts}
 use Rattle.scale_space.specs.declared.turns.Turn.{Turn}
 use Rattle.scale_space.specs.Signs.{Sign, below, level, above, side, keep}
@@ -41,7 +41,7 @@ turns_few (x ∷ xs) = omega (arith, turns_of_few (spot 0 x ∷ flats_after x 1 
 
 -- ---- what holds of each
 module _ (P : Spot → Type 0) where
-  keep_each : (s : Sign) (g : Spot) (fs : List Spot) → P g → All P fs → All P (keep s g fs)
+  keep_each : (s : Sign) (g : Spot) (fs : List Spot) → P g → AllByRecursion P fs → AllByRecursion P (keep s g fs)
   keep_each below g fs p h = (p, h)
   keep_each level g fs p h = h
   keep_each above g fs p h = (p, h)
@@ -49,7 +49,7 @@ module _ (P : Spot → Type 0) where
   abbrev OfTurn : Turn → Type 0
   OfTurn t = P (spot t.place t.numerator)
 
-  turning_each : (s t : Sign) (g : Spot) (ts : List Turn) → P g → All OfTurn ts → All OfTurn (turning s t g ts)
+  turning_each : (s t : Sign) (g : Spot) (ts : List Turn) → P g → AllByRecursion OfTurn ts → AllByRecursion OfTurn (turning s t g ts)
   turning_each below below g ts p h = (p, h)
   turning_each below level g ts p h = h
   turning_each below above g ts p h = h
@@ -58,7 +58,7 @@ module _ (P : Spot → Type 0) where
   turning_each above level g ts p h = h
   turning_each above above g ts p h = (p, h)
 
-  turns_of_each : (fs : List Spot) → All P fs → All OfTurn (turns_of fs)
+  turns_of_each : (fs : List Spot) → AllByRecursion P fs → AllByRecursion OfTurn (turns_of fs)
   unfolding turns_of
   turns_of_each [] h = tt
   turns_of_each (f ∷ []) h = tt
@@ -70,16 +70,16 @@ module _ (R : ℤ → Type 0) (m : ℕ) where
   abbrev Sample : Spot → Type 0
   Sample g = (g.place < m) × R g.value
 
-  flats_each : (v : ℤ) (n : ℕ) (xs : List ℤ) → n + length xs ≤ m → All R xs → All Sample (flats_after v n xs)
+  flats_each : (v : ℤ) (n : ℕ) (xs : List ℤ) → n + length xs ≤ m → AllByRecursion R xs → AllByRecursion Sample (flats_after v n xs)
   unfolding flats_after
   flats_each v n [] l h = tt
   flats_each v n (x ∷ xs) l h = keep_each Sample (side x v) (spot n x) (flats_after x (suc n) xs) (omega arith, h.0) (flats_each x (suc n) xs (omega arith) h.1)
 
-pub turns_each : (R : ℤ → Type 0) (xs : List ℤ) → All R xs → All (λ t. (t.place < length xs) × R t.numerator) (turns xs)
+pub turns_each : (R : ℤ → Type 0) (xs : List ℤ) → AllByRecursion R xs → AllByRecursion (λ t. (t.place < length xs) × R t.numerator) (turns xs)
 unfolding turns flats
 turns_each R [] h = turns_of_each (Sample R 0) [] tt
 turns_each R (x ∷ xs) h = turns_of_each (Sample R (length (x ∷ xs))) (spot 0 x ∷ flats_after x 1 xs) ((omega arith, h.0), flats_each R (length (x ∷ xs)) x 1 xs (omega arith) h.1)
 
-pub all_fit : (s : ℕ) (xs : List ℤ) → heights_fit s xs ≡ true → All (λ x. nat_abs x ≤ 100000 * s) xs
+pub all_fit : (s : ℕ) (xs : List ℤ) → heights_fit s xs ≡ true → AllByRecursion (λ x. nat_abs x ≤ 100000 * s) xs
 all_fit s [] e = tt
 all_fit s (x ∷ xs) e = (leb-true _ _ (and_parts _ _ e).0, all_fit s xs (and_parts _ _ e).1)

@@ -1,6 +1,6 @@
 //! The lines of a level's turns.
 ghost use Rattle.std.specs.Prelude.{◌≡◌, ◌*◌, ◌≤◌, true, ◌++◌, map, length, Ok, codes, unsigned_abs};
-ghost use Rattle.std.specs.List.{flat_map, AllByRecursion as All};
+ghost use Rattle.std.specs.List.{flat_map, AllByRecursion};
 ghost use Rattle.samples.specs.Answers.{scale_lawful, heights_fit};
 ghost use Rattle.sheets.specs.Lines.{answer};
 ghost use Rattle.listing.specs.Listing.{kind_word, turn_line, names, listing, height_line, turn_rounded};
@@ -82,7 +82,7 @@ fn put_lines(level: usize, turns: &[Turn], out: &mut [u8], end: usize) -> usize
 /// Puts its rounded height in place of each turn's numerator, so that no line divides again.
 fn round_turns(turns: &mut [Turn], scale: u64)
     requires lawful { scale_lawful scale ≡ true }
-    requires small { All (λ t. unsigned_abs t.numerator ≤ 100000 * scale) turns.old }
+    requires small { AllByRecursion (λ t. unsigned_abs t.numerator ≤ 100000 * scale) turns.old }
     ensures { turns.new ≡ map (turn_rounded scale) turns.old }
 {
     for turn in turns.iter_mut() {
@@ -130,7 +130,7 @@ fn write_rounded(
     out: &mut [u8],
 ) -> Result<usize, SheetFault>
     requires lawful { scale_lawful scale ≡ true }
-    requires small { All (λ t. unsigned_abs t.numerator ≤ 100000 * scale) turns.old }
+    requires small { AllByRecursion (λ t. unsigned_abs t.numerator ≤ 100000 * scale) turns.old }
     requires short { length turns.old ≤ 2048 }
     ensures answers { result ≡ (answer (Ok (names level ++ flat_map (turn_line level scale) turns.old)) out.old).0 }
     ensures writes { out.new ≡ (answer (Ok (names level ++ flat_map (turn_line level scale) turns.old)) out.old).1 }

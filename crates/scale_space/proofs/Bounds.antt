@@ -4,7 +4,7 @@ use lib.IntN.{*ℤ_comm, *ℤ-zero}
 use lib.Signed.{≤ℤ_refl}
 use borrow.Author.Differences.{ints, le_out, product_is, at_most_in}
 use Rattle.std.proofs.lemmas.Bool.{cases_lt}
-use Rattle.std.specs.List.{AllByRecursion as All}
+use Rattle.std.specs.List.{AllByRecursion}
 use Rattle.scale_space.specs.Taps.{dot, windows, scale}
 use Rattle.scale_space.specs.Levels.{Between}
 use Rattle.scale_space.proofs.Ring.{*ℤ-+ℤ}
@@ -21,7 +21,7 @@ sum_order x y v w h k = omega (arith, ints)
 more_scale : (h : ℤ) (t n : ℕ) → h *ℤ pos (t + n) ≡ pos t *ℤ h +ℤ h *ℤ pos n
 more_scale h t n = *ℤ-+ℤ h (pos t) (pos n) ∙ ap (λ z. z +ℤ h *ℤ pos n) (*ℤ_comm h (pos t))
 
-dot_between : (low high : ℤ) (ts : List ℕ) (xs : List ℤ) → length ts ≤ length xs → All (Between low high) xs → Between (low *ℤ pos (scale ts)) (high *ℤ pos (scale ts)) (dot ts xs)
+dot_between : (low high : ℤ) (ts : List ℕ) (xs : List ℤ) → length ts ≤ length xs → AllByRecursion (Between low high) xs → Between (low *ℤ pos (scale ts)) (high *ℤ pos (scale ts)) (dot ts xs)
 unfolding dot scale
 dot_between low high [] xs h a = (subst (λ z. z ≤ℤ pos 0) (sym (*ℤ-zero low)) (≤ℤ_refl (pos 0)), subst (λ z. pos 0 ≤ℤ z) (sym (*ℤ-zero high)) (≤ℤ_refl (pos 0)))
 dot_between low high (t ∷ ts) [] h a = absurd (omega arith)
@@ -31,7 +31,7 @@ dot_between low high (t ∷ ts) (x ∷ xs) h a =
       subst (λ z. (pos t *ℤ x +ℤ dot ts xs) ≤ℤ z) (sym (more_scale high t (scale ts))) (sum_order (pos t *ℤ x) (pos t *ℤ high) (dot ts xs) (high *ℤ pos (scale ts)) (times_order t x high a.0.1) b.1),
     )
 
-pub windows_between : (low high : ℤ) (ts : List ℕ) (xs : List ℤ) → All (Between low high) xs → All (Between (low *ℤ pos (scale ts)) (high *ℤ pos (scale ts))) (windows ts xs)
+pub windows_between : (low high : ℤ) (ts : List ℕ) (xs : List ℤ) → AllByRecursion (Between low high) xs → AllByRecursion (Between (low *ℤ pos (scale ts)) (high *ℤ pos (scale ts))) (windows ts xs)
 unfolding windows
 windows_between low high ts [] a = tt
 windows_between low high ts (x ∷ xs) a = go (windows_between low high ts xs a.1) (cases_lt (length (x ∷ xs)) (length ts))
@@ -39,6 +39,6 @@ windows_between low high ts (x ∷ xs) a = go (windows_between low high ts xs a.
     P : ℤ → Type 0
     P = Between (low *ℤ pos (scale ts)) (high *ℤ pos (scale ts))
 
-    go : All P (windows ts xs) → (length (x ∷ xs) < length ts) ⊎ (length ts ≤ length (x ∷ xs)) → All P (windows ts (x ∷ xs))
-    go ih (inl h) = subst (All P) (sym (windows_short ts (x ∷ xs) h)) tt
-    go ih (inr h) = subst (All P) (sym (windows_cons ts x xs h)) (dot_between low high ts (x ∷ xs) h a, ih)
+    go : AllByRecursion P (windows ts xs) → (length (x ∷ xs) < length ts) ⊎ (length ts ≤ length (x ∷ xs)) → AllByRecursion P (windows ts (x ∷ xs))
+    go ih (inl h) = subst (AllByRecursion P) (sym (windows_short ts (x ∷ xs) h)) tt
+    go ih (inr h) = subst (AllByRecursion P) (sym (windows_cons ts x xs h)) (dot_between low high ts (x ∷ xs) h a, ih)

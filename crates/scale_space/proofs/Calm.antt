@@ -1,7 +1,7 @@
 -- What obeys the law of taps smooths; roundings and levels are calm.
 use Rattle.std.proofs.Common.{◌≡◌, ℕ, ◌*◌, ◌<◌, ◌≤◌, true, List, [], ◌∷◌, map, length, get_or, take, ℤ, pos, ◌*ℤ◌, fold, sym, subst, subst₂, mul-pos, arith}
 use borrow.Author.Differences.{ints}
-use Rattle.std.specs.List.{AllByRecursion as All}
+use Rattle.std.specs.List.{AllByRecursion}
 use Rattle.std.proofs.ByRecursion.{All-get_or, All-take, All-map, All-weaker}
 use Rattle.std.proofs.lemmas.List.Sums.{fold_more}
 use Rattle.std.proofs.lemmas.Bool.{leb-true}
@@ -25,8 +25,8 @@ admitted_diminish (Pair a b) h = law_of_pair a b
 admitted_diminish (Triple a b c) h = law_of_triple a b c (leb-true (4 * (a * c)) (b * b) h)
 
 -- bounds that are written in two ways
-recast : (low low' high high' : ℤ) (xs : List ℤ) → low ≡ low' → high ≡ high' → All (Between low high) xs → All (Between low' high') xs
-recast low low' high high' xs e f h = subst₂ (λ u v. All (Between u v) xs) e f h
+recast : (low low' high high' : ℤ) (xs : List ℤ) → low ≡ low' → high ≡ high' → AllByRecursion (Between low high) xs → AllByRecursion (Between low' high') xs
+recast low low' high high' xs e f h = subst₂ (λ u v. AllByRecursion (Between u v) xs) e f h
 
 pub diminishing_smooths : (ts : List ℕ) → 0 < length ts → Diminishing ts → Smooths ts
 diminishing_smooths [] h law l p = absurd (omega arith)
@@ -67,15 +67,15 @@ whole_calm l p = roundings_calm l (rounded l.scale) (rounded_rounds l.scale p)
 abbrev after : Level → List Pass → Level
 after l ps = fold (λ m p. weighed (weights p) m) l ps
 
-after_scale : (l : Level) (ps : List Pass) → All Proper ps → 1 ≤ l.scale → 1 ≤ (after l ps).scale
+after_scale : (l : Level) (ps : List Pass) → AllByRecursion Proper ps → 1 ≤ l.scale → 1 ≤ (after l ps).scale
 after_scale l [] h k = k
 after_scale l (p ∷ ps) h k = after_scale (weighed (weights p) l) ps h.1 (mul-pos k h.0.some)
 
-after_within : (low high : ℤ) (l : Level) (ps : List Pass) → All Proper ps → 1 ≤ l.scale → Within low high l → Within low high (after l ps)
+after_within : (low high : ℤ) (l : Level) (ps : List Pass) → AllByRecursion Proper ps → 1 ≤ l.scale → Within low high l → Within low high (after l ps)
 after_within low high l [] h k w = w
 after_within low high l (p ∷ ps) h k w = after_within low high (weighed (weights p) l) ps h.1 (mul-pos k h.0.some) ((admitted_smooth p h.0.admissible l k).bounded low high w)
 
-pub levels_calm : (ps : List Pass) → All Proper ps → (hs : List ℤ) → Calm ps hs
+pub levels_calm : (ps : List Pass) → AllByRecursion Proper ps → (hs : List ℤ) → Calm ps hs
 levels_calm ps proper hs = record {
   stepwise = λ k lt.
       subst (Calmer (level (take k ps) hs)) (sym (fold_more (λ m q. weighed (weights q) m) (ground hs) ps k (Pair 0 0) lt))

@@ -3,7 +3,7 @@ use Rattle.std.proofs.Common.{◌≡◌, ℕ, zero, suc, ◌+◌, ◌*◌, ◌/�
 use mathlib.Core.Path.{subst₃}
 use Prim.Native.Nat.{◌∣◌}
 use native.Mathlib.Nat.{dvd-zero, dvd_trans, dvd_refl, one-dvd, dvd-mod_iff, le_of_dvd, mod-eq-zero_of_dvd, dvd_of_mod-eq-zero, eq-zero_of_zero-dvd, pos_of_dvd_of_pos, mul-div_cancel', mul-div_cancel_left, le_of_mul-le-mul_left, dvd-mul_right, dvd_of_mul-dvd-mul_left, mul-dvd-mul_left, eq-one_of_dvd-one}
-use Rattle.std.specs.List.{AllByRecursion as All}
+use Rattle.std.specs.List.{AllByRecursion}
 use Rattle.std.proofs.ByRecursion.{All-weaker, All-map}
 use Rattle.std.proofs.lemmas.Bool.{and_parts, and_from, leb-true, le-leb, lt-leb, eqb-true, eq-eqb, cases_eq, cases_Bool, cases_lt}
 use Rattle.scale_space.specs.declared.passes.Pass.{Pass}
@@ -197,7 +197,7 @@ same_multiple us vs m n red red' p e =
     let same : m ≡ n = common_scaled m us red ∙ ap common e ∙ sym (common_scaled n vs red') in
     sym (over_scaled m us p) ∙ ap₂ over same e ∙ over_scaled n vs (subst (λ k. 0 < k) same p)
 
-pub over_exact : (ws : List ℕ) → All (λ w. common ws * (w / common ws) ≡ w) ws
+pub over_exact : (ws : List ℕ) → AllByRecursion (λ w. common ws * (w / common ws) ≡ w) ws
 over_exact ws = All-weaker (λ w. common ws ∣ w) (λ w. common ws * (w / common ws) ≡ w) (λ w h. mul-div_cancel' (common ws) h) ws (common_greatest ws).each
 
 pub over_reduced : (ws : List ℕ) → 0 < scale ws → Reduced (over (common ws) ws)
@@ -233,7 +233,7 @@ lowest_is p red = weights_apart (lowest p) p (sym (lowest_weights p) ∙ ap (λ 
     over_one [] = refl
     over_one (w ∷ ws) = ap₂ {C = List ℕ} ◌∷◌ (div-one w) (over_one ws)
 
-over_small : (g : ℕ) (ws : List ℕ) → All (λ w. w ≤ 1000) ws → All (λ w. w ≤ 1000) (over g ws)
+over_small : (g : ℕ) (ws : List ℕ) → AllByRecursion (λ w. w ≤ 1000) ws → AllByRecursion (λ w. w ≤ 1000) (over g ws)
 over_small g ws h = All-map (λ w. w ≤ 1000) (λ w. w / g) ws (All-weaker (λ w. w ≤ 1000) (λ w. w / g ≤ 1000) (λ w l. omega (arith, div-le_self w g)) ws h)
 
 multiple_admitted : (g x y z : ℕ) → 0 < g → admitted (Triple (g * x) (g * y) (g * z)) ≡ true → admitted (Triple x y z) ≡ true
@@ -249,9 +249,9 @@ lowest_admitted (Triple a b c) some h =
     let e = over_exact ws in
     multiple_admitted g (a / g) (b / g) (c / g) (common_some ws some) (subst₃ (λ a b c. admitted (Triple a b c) ≡ true) (sym e.0) (sym e.1.0) (sym e.1.1.0) h)
 
-pub lowest_proper : (p : Pass) → All (λ w. w ≤ 1000) (weights p) → 0 < scale (weights p) → admitted p ≡ true → Proper (lowest p)
+pub lowest_proper : (p : Pass) → AllByRecursion (λ w. w ≤ 1000) (weights p) → 0 < scale (weights p) → admitted p ≡ true → Proper (lowest p)
 lowest_proper p small some adm = record {
-  small = subst (All (λ w. w ≤ 1000)) (lowest_weights p) (over_small (common (weights p)) (weights p) small);
+  small = subst (AllByRecursion (λ w. w ≤ 1000)) (lowest_weights p) (over_small (common (weights p)) (weights p) small);
   some = reduced_some (weights (lowest p)) (lowest_reduced p some);
   reduced = lowest_reduced p some;
   admissible = lowest_admitted p some adm;

@@ -1,6 +1,6 @@
 -- Records of a prime table by their places: where one more prime goes, and the sum of the counts.
 use Rattle.std.proofs.Common.{◌≡◌, ℕ, zero, suc, ◌+◌, ◌<◌, ◌≤◌, true, false, List, [], ◌∷◌, ◌++◌, length, get_or, take, set, fold, sum_by, sym, refl, ap, ◌∙◌, ⊎_elim, one-add, arith}
-use Rattle.std.specs.List.{prefix_len, insert, AllByRecursion as All}
+use Rattle.std.specs.List.{prefix_len, insert, AllByRecursion}
 use Rattle.std.proofs.lemmas.Bool.{cases_Bool, cond-true, cond-false}
 use Rattle.std.proofs.lemmas.List.{take_more, flat_map_more}
 use Rattle.std.proofs.lemmas.List.Sums.{prefix_len-le-length, sum_by-cons}
@@ -71,7 +71,7 @@ pub counted_table : (ps : List Pass) → counted (table ps) ≡ length (primes p
 counted_table ps = omega (arith, counted_folded [] (primes ps))
 
 -- no record is for nothing, so there are no more records than counts
-pub length_le_counted : (rs : List PrimeCount) → All (λ r. 0 < r.count) rs → length rs ≤ counted rs
+pub length_le_counted : (rs : List PrimeCount) → AllByRecursion (λ r. 0 < r.count) rs → length rs ≤ counted rs
 length_le_counted [] h = omega arith
 length_le_counted (r ∷ rs) (h, k) = omega (arith, counted_cons r rs, length_le_counted rs k)
 

@@ -1,6 +1,6 @@
 -- Two lists of passes have one prime table exactly where no profile tells them apart.
 use Rattle.std.proofs.Common.{◌≡◌, ℕ, suc, ◌+◌, ◌*◌, ◌<◌, ◌≤◌, List, [], ◌∷◌, length, get_or, ℤ, pos, ◌*ℤ◌, sym, ap, ◌∙◌, subst₂, arith}
-use Rattle.std.specs.List.{AllByRecursion as All}
+use Rattle.std.specs.List.{AllByRecursion}
 use Rattle.std.proofs.lemmas.List.{ext_get_or, get_or-map}
 use Rattle.scale_space.specs.declared.passes.Pass.{Pass}
 use Rattle.scale_space.specs.Taps.{windows, scaled, scale}
@@ -18,7 +18,7 @@ use Rattle.scale_space.proofs.Tables.{table_tabulates, same_table, table_same}
 use Rattle.scale_space.proofs.Impulse.{impulse, impulse_length, impulse_profile, windows_impulse}
 
 -- one table gives one list of taps
-pub table_taps : (ps qs : List Pass) → All Proper ps → All Proper qs → SameTable ps qs → taps ps ≡ taps qs
+pub table_taps : (ps qs : List Pass) → AllByRecursion Proper ps → AllByRecursion Proper qs → SameTable ps qs → taps ps ≡ taps qs
 table_taps ps qs h k same =
     sym (primes_factored ps h).piled
     ∙ orderless (primes ps) (primes qs) (table_same (primes ps) (primes qs) (table ps) (table qs) (table_tabulates ps) (table_tabulates qs) same)
@@ -79,7 +79,7 @@ module _ (ps qs : List Pass) (short : length ps ≤ 24) (short' : length qs ≤ 
       (λ j l. get_or-map (λ t. product qs * t) (taps ps) j 0 0 (omega (arith, length_scaled (product qs) (taps ps)))
       ∙ each j ∙ sym (get_or-map (λ t. product ps * t) (taps qs) j 0 0 (omega (arith, lengths, length_scaled (product qs) (taps ps)))))
 
-  samples_table : All Proper ps → All Proper qs → SameTable ps qs
+  samples_table : AllByRecursion Proper ps → AllByRecursion Proper qs → SameTable ps qs
   samples_table h k =
       same_table (primes ps) (primes qs) (table ps) (table qs) (table_tabulates ps) (table_tabulates qs)
       (unique (primes ps) (primes qs) (product qs) (product ps) P.prime Q.prime (product_some ps h)
@@ -91,7 +91,7 @@ module _ (ps qs : List Pass) (short : length ps ≤ 24) (short' : length qs ≤ 
       Q : Factored (primes qs) (taps qs)
       Q = primes_factored qs k
 
-pub tables_decide : (ps qs : List Pass) → length ps ≤ 24 → length qs ≤ 24 → All Proper ps → All Proper qs → Equality ps qs
+pub tables_decide : (ps qs : List Pass) → length ps ≤ 24 → length qs ≤ 24 → AllByRecursion Proper ps → AllByRecursion Proper qs → Equality ps qs
 tables_decide ps qs short short' h k =
     let down : SameTable ps qs → SameLevels ps qs = λ e hs _ _ _. taps_levels ps qs (table_taps ps qs h k e) hs in
     let over : SameLevels ps qs → SameSamples ps qs = λ e hs f l m. agree (level ps hs) (level qs hs) (e hs f l m) in

@@ -1,7 +1,7 @@
 -- The factors of a proper pass are primes, and have its weights for their taps.
 use Rattle.std.proofs.Common.{◌≡◌, ℕ, zero, suc, ◌+◌, ◌-◌, ◌*◌, ◌<◌, ◌≤◌, true, false, eqb, ◌⊎◌, List, [], ◌∷◌, ◌++◌, length, sym, refl, ap, ◌∙◌, subst, inl, inr, arith, length-append}
 use native.Mathlib.Nat.{dvd-zero, eq-one_of_dvd-one}
-use Rattle.std.specs.List.{AllByRecursion as All}
+use Rattle.std.specs.List.{AllByRecursion}
 use Rattle.std.proofs.ByRecursion.{All-append}
 use Rattle.std.proofs.lemmas.Bool.{cases_Bool, cond-true, cond-false, cond_both, eqb-true, eqb-false, eq-eqb, ne_eqb, leb-true}
 use Rattle.scale_space.specs.declared.passes.Pass.{Pass}
@@ -87,7 +87,7 @@ factors_factored (Triple a b c) h = go (cases_Bool (eqb (s * s) d))
         none : (t : ℕ) → t * t ≡ d → ⊥
         none t f = eqb-false (s * s) d e (subst (λ n. n * n ≡ d) (root_is d t (omega arith, omega arith)) f)
 
-pub primes_factored : (ps : List Pass) → All Proper ps → Factored (primes ps) (taps ps)
+pub primes_factored : (ps : List Pass) → AllByRecursion Proper ps → Factored (primes ps) (taps ps)
 primes_factored [] h = record { prime = tt; piled = refl }
 primes_factored (p ∷ ps) (h, k) =
     let m = factors_factored p h in

@@ -2,7 +2,7 @@
 use Rattle.std.proofs.Common.{◌≡◌, ℕ, zero, suc, ◌<◌, ◌≤◌, List, [], ◌∷◌, length, get_or, ℤ, pos, negsuc, ◌+ℤ◌, ◌*ℤ◌, refl, ap, ◌∙◌, arith}
 use lib.IntN.{+ℤ_idr, +ℤ_idl, *ℤ-zero}
 use borrow.Author.Differences.{ints}
-use Rattle.std.specs.List.{AllByRecursion as All}
+use Rattle.std.specs.List.{AllByRecursion}
 use Rattle.scale_space.specs.Taps.{dot, windows}
 use Rattle.scale_space.specs.Levels.{Between}
 use Rattle.scale_space.specs.Passes.{Profile}
@@ -37,11 +37,11 @@ nought = (omega (arith, ints), omega (arith, ints))
 one : Lawful (pos 1)
 one = (omega (arith, ints), omega (arith, ints))
 
-flat_lawful : (n : ℕ) → All Lawful (flat n)
+flat_lawful : (n : ℕ) → AllByRecursion Lawful (flat n)
 flat_lawful zero = tt
 flat_lawful (suc n) = (nought, flat_lawful n)
 
-impulse_lawful : (n j : ℕ) → All Lawful (impulse n j)
+impulse_lawful : (n j : ℕ) → AllByRecursion Lawful (impulse n j)
 impulse_lawful zero j = tt
 impulse_lawful (suc n) zero = (one, flat_lawful n)
 impulse_lawful (suc n) (suc j) = (nought, impulse_lawful n j)

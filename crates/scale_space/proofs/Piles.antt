@@ -2,7 +2,7 @@
 use Rattle.std.proofs.Common.{◌≡◌, ℕ, suc, ◌+◌, ◌-◌, ◌*◌, ◌<◌, ◌≤◌, ◌⊎◌, List, [], ◌∷◌, length, ℤ, pos, ◌+ℤ◌, ◌*ℤ◌, fold, sym, refl, ap, ◌∙◌, subst, inl, inr, le_trans, mul-pos, arith}
 use lib.IntN.{+ℤ_idr, +ℤ_idl, zero-*ℤ, *ℤ-zero}
 use borrow.Author.Differences.{ints}
-use Rattle.std.specs.List.{AllByRecursion as All}
+use Rattle.std.specs.List.{AllByRecursion}
 use Rattle.std.proofs.lemmas.Bool.{cases_lt}
 use Rattle.scale_space.specs.declared.passes.Pass.{Pass}
 use Rattle.scale_space.specs.declared.passes.Pass.TheVariants.{Pair, Triple}
@@ -122,7 +122,7 @@ unfolding scale
 product_is [] = refl
 product_is (p ∷ ps) = ap (λ n. scale (weights p) * n) (product_is ps) ∙ sym (conv_scale (weights p) (taps ps))
 
-pub product_some : (ps : List Pass) → All Proper ps → 0 < product ps
+pub product_some : (ps : List Pass) → AllByRecursion Proper ps → 0 < product ps
 product_some [] h = omega arith
 product_some (p ∷ ps) (h, k) = mul-pos h.some (product_some ps k)
 

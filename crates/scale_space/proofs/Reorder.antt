@@ -1,6 +1,6 @@
 -- The order in a pile does not matter: passes that stand equally often have the same taps.
-use Rattle.std.proofs.Common.{◌≡◌, ℕ, ◌+◌, ◌<◌, true, cond, ◌&&◌, eqb, List, [], ◌∷◌, sym, refl, ap, ◌∙◌, ap₂, ⊎_elim, arith}
-use Rattle.std.specs.List.{AllByRecursion as All}
+use Rattle.std.proofs.Common.{◌≡◌, ℕ, ◌+◌, ◌<◌, true, cond, ◌&&◌, eqb, List, [], ◌∷◌, Decides, sym, refl, ap, subst, ◌∙◌, ap₂, ⊎_elim, arith}
+use Rattle.std.specs.List.{AllByRecursion}
 use Rattle.std.proofs.lemmas.Bool.{cases_Bool, eqb-true, eq-eqb, cond-true, cond-false, false≢true, and_parts, and_from}
 use Rattle.scale_space.specs.declared.passes.Pass.{Pass}
 use Rattle.scale_space.specs.declared.passes.Pass.TheVariants.{Pair, Triple}
@@ -25,13 +25,16 @@ pub same_self : (p : Pass) → same p p ≡ true
 same_self (Pair a b) = and_from (eqb a a) (eqb b b) (eq-eqb a a refl) (eq-eqb b b refl)
 same_self (Triple a b c) = and_from (eqb a a) (eqb b b && eqb c c) (eq-eqb a a refl) (and_from (eqb b b) (eqb c c) (eq-eqb b b refl) (eq-eqb c c refl))
 
+pub same_decides : (p q : Pass) → Decides (same p q) (p ≡ q)
+same_decides p q = (same_true p q, λ e. subst (λ z. same p z ≡ true) e (same_self p))
+
 pub count_self : (p : Pass) (ps : List Pass) → count p (p ∷ ps) ≡ 1 + count p ps
 count_self p ps = ap (λ w. w + count p ps) (cond-true (same p p) 1 0 (same_self p))
 
 -- p taken out of the pile qs
 pub record Picked (p : Pass) (qs : List Pass) : Type 1 where
   pub rest : List Pass
-  pub keeps : (P : Pass → Type 0) → All P qs → All P rest
+  pub keeps : (P : Pass → Type 0) → AllByRecursion P qs → AllByRecursion P rest
   pub same_taps : taps qs ≡ conv (weights p) (taps rest)
   pub counts : (x : Pass) → count x qs ≡ count x (p ∷ rest)
 

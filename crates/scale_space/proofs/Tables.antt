@@ -1,6 +1,6 @@
 -- Prime tables: `table` makes one, and the counts say all that stands in one.
 use Rattle.std.proofs.Common.{◌≡◌, ℕ, ◌+◌, ◌<◌, Bool, true, false, cond, ◌⊎◌, List, [], ◌∷◌, fold, sym, refl, ap, ◌∙◌, subst, inl, inr, ⊎_elim, arith}
-use Rattle.std.specs.List.{AllByRecursion as All}
+use Rattle.std.specs.List.{AllByRecursion}
 use Rattle.std.proofs.ByRecursion.{All-weaker}
 use Rattle.std.proofs.lemmas.Bool.{cases_Bool, cond-true, cond-false}
 use Rattle.scale_space.specs.declared.passes.Pass.{Pass}
@@ -53,7 +53,7 @@ held_added q (r ∷ rs) p =
         go (inr e) = omega (arith, cond-false {A = ℕ} test (r.count + 1) 0 e, cond-false {A = ℕ} test r.count 0 e, cond-false {A = ℕ} test 1 0 e)
 
 abbrev After : Pass → List PrimeCount → Type 0
-After p rs = All (λ s. before p s.prime ≡ true) rs
+After p rs = AllByRecursion (λ s. before p s.prime ≡ true) rs
 
 after_trans : (p q : Pass) (rs : List PrimeCount) → before p q ≡ true → After q rs → After p rs
 after_trans p q rs b h = All-weaker (λ s. before q s.prime ≡ true) (λ s. before p s.prime ≡ true) (λ s k. before_trans p q s.prime b k) rs h
@@ -72,7 +72,7 @@ ordered_added (r ∷ rs) p (h, k) =
     (λ b s. let c : before p r.prime ≡ true = before_total r.prime p b s in ((c, after_trans p r.prime rs c h), (h, k)))
 
 abbrev Positive : List PrimeCount → Type 0
-Positive rs = All (λ r. 0 < r.count) rs
+Positive rs = AllByRecursion (λ r. 0 < r.count) rs
 
 positive_added : (rs : List PrimeCount) (p : Pass) → Positive rs → Positive (added rs p)
 positive_added [] p h = (omega arith, tt)

@@ -1,6 +1,6 @@
 -- Unique factorisation: piles of primes with proportional taps hold the same primes, equally often.
 use Rattle.std.proofs.Common.{◌≡◌, ℕ, ◌+◌, ◌-◌, ◌<◌, cond, List, [], ◌∷◌, length, sym, refl, ap, ◌∙◌, subst, ap₂, ⊎_elim, arith}
-use Rattle.std.specs.List.{AllByRecursion as All}
+use Rattle.std.specs.List.{AllByRecursion}
 use Rattle.scale_space.specs.declared.passes.Pass.{Pass}
 use Rattle.scale_space.specs.declared.passes.Pass.TheVariants.{Pair, Triple}
 use Rattle.scale_space.specs.Taps.{scaled}
@@ -32,7 +32,7 @@ piled_cons P q qs =
     (omega arith) (omega (arith, taps_length qs))
 
 -- where a pile of primes vanishes at a root of p, p stands in it
-stands : (p : Pass) (r : RootOf p) (qs : List Pass) → All Prime qs → r.at.Zero (piled r.at qs) → 0 < count p qs
+stands : (p : Pass) (r : RootOf p) (qs : List Pass) → AllByRecursion Prime qs → r.at.Zero (piled r.at qs) → 0 < count p qs
 stands p r [] prs z = let bad : ◌≡◌ {A = ℕ} 1 0 = r.at.apart 1 z in absurd (omega arith)
 stands p r (q ∷ qs) (pr, prs) z =
     ⊎_elim
@@ -64,7 +64,7 @@ passes p r ps qs m n pos e =
     scaled_value : ev P.ring P.X P.Y (reach (p ∷ ps)) (scaled m (taps (p ∷ ps))) ≡ P.ring.mul (P.ring.nat n) (piled P qs)
     scaled_value = ap₂ (ev P.ring P.X P.Y) reaches e ∙ ev_scaled P.ring P.X P.Y (reach qs) n (taps qs)
 
-pub unique : (ps qs : List Pass) (m n : ℕ) → All Prime ps → All Prime qs → 0 < n → scaled m (taps ps) ≡ scaled n (taps qs) →
+pub unique : (ps qs : List Pass) (m n : ℕ) → AllByRecursion Prime ps → AllByRecursion Prime qs → 0 < n → scaled m (taps ps) ≡ scaled n (taps qs) →
     ((p : Pass) → count p ps ≡ count p qs) × (m ≡ n)
 unique [] [] m n prs qrs k e = ((λ p. refl), omega (arith, ap (val 0) e))
 unique [] (q ∷ qs) m n prs qrs k e =

@@ -1,7 +1,7 @@
 -- Common divisors, and lists of numbers in lowest terms.
 use Rattle.std.specs.Prelude.{◌≡◌, ℕ, zero, suc, ◌%◌, Bool, true, cond, ◌&&◌, List, [], ◌∷◌, ◌==◌}
 use Rattle.std.specs.Int.{◌∣◌}
-use Rattle.std.specs.List.{AllByRecursion as All}
+use Rattle.std.specs.List.{AllByRecursion}
 use Rattle.scale_space.specs.Taps.{scale}
 
 -- the largest number from 1 to n that passes a test, and 0 where none does
@@ -19,7 +19,7 @@ unfoldable pub common : List ℕ → ℕ
 common ws = largest (λ d. divides d ws) (scale ws)
 
 abbrev pub Divides : ℕ → List ℕ → Type 0
-Divides d ws = All (λ w. d ∣ w) ws
+Divides d ws = AllByRecursion (λ w. d ∣ w) ws
 
 -- g divides each of the numbers, and each number that does so divides g
 pub record Greatest (ws : List ℕ) (g : ℕ) : Type 0 where

@@ -1,6 +1,6 @@
 -- Levels: numerators over one scale, what smoothing and rounding make of them, and what neither may do.
 use Rattle.std.specs.Prelude.{◌≡◌, ℕ, ◌*◌, ◌≤◌, List, map, length, ℤ, pos, ◌*ℤ◌, ◌≤ℤ◌, slice_index_or}
-use Rattle.std.specs.List.{AllByRecursion as All}
+use Rattle.std.specs.List.{AllByRecursion}
 use Rattle.scale_space.specs.Signs.{changes}
 use Rattle.scale_space.specs.Taps.{windows, scale}
 use Rattle.scale_space.specs.Turns.{turns}
@@ -40,7 +40,7 @@ Between low high x = (low ≤ℤ x) × (x ≤ℤ high)
 
 -- every exact sample lies between two whole heights, ends included
 abbrev pub Within : ℤ → ℤ → Level → Type 0
-Within low high l = All (Between (low *ℤ pos l.scale) (high *ℤ pos l.scale)) l.numerators
+Within low high l = AllByRecursion (Between (low *ℤ pos l.scale) (high *ℤ pos l.scale)) l.numerators
 
 -- From one level to another neither the turns nor the crossings of any whole height become more, and what lay between
 -- two whole heights stays between them.

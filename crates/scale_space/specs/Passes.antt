@@ -1,6 +1,6 @@
 -- Passes, and lists of them: weights, reach, scale, taps, and the levels that they draw from a profile.
 use Rattle.std.specs.Prelude.{◌≡◌, ℕ, ◌+◌, ◌-◌, ◌*◌, ◌/◌, ◌<◌, ◌≤◌, Bool, true, List, [], ◌∷◌, length, ℤ, pos, negsuc, fold, nat_le}
-use Rattle.std.specs.List.{AllByRecursion as All}
+use Rattle.std.specs.List.{AllByRecursion}
 use Rattle.scale_space.specs.declared.passes.Pass.{Pass}
 use Rattle.scale_space.specs.declared.passes.Pass.TheVariants.{Pair, Triple}
 use Rattle.scale_space.specs.Taps.{scale, conv}
@@ -23,7 +23,7 @@ lowest (Triple a b c) = Triple (a / common (a ∷ b ∷ c ∷ [])) (b / common (
 
 -- a pass that may stand in a schedule: weights of 1,000 at most, not all 0, in lowest terms, and admitted
 pub record Proper (p : Pass) : Type 0 where
-  pub small : All (λ w. w ≤ 1000) (weights p)
+  pub small : AllByRecursion (λ w. w ≤ 1000) (weights p)
   pub some : 0 < scale (weights p)
   pub reduced : Reduced (weights p)
   pub admissible : admitted p ≡ true
@@ -52,4 +52,4 @@ level ps hs = fold (λ l p. weighed (weights p) l) (ground hs) ps
 pub record Profile (hs : List ℤ) : Type 0 where
   pub some : 1 ≤ length hs
   pub short : length hs ≤ 2048
-  pub in_range : All (Between (negsuc 99999) (pos 100000)) hs
+  pub in_range : AllByRecursion (Between (negsuc 99999) (pos 100000)) hs

@@ -1,6 +1,6 @@
 -- The primes that passes are made of.
 use Rattle.std.specs.Prelude.{◌≡◌, ℕ, ◌+◌, ◌-◌, ◌*◌, ◌<◌, ◌≤◌, Bool, false, cond, ◌&&◌, List, [], ◌∷◌, ◌==◌, ◌≢◌, nat_le}
-use Rattle.std.specs.List.{flat_map, AllByRecursion as All}
+use Rattle.std.specs.List.{flat_map, AllByRecursion}
 use Rattle.scale_space.specs.declared.passes.Pass.{Pass}
 use Rattle.scale_space.specs.declared.passes.Pass.TheVariants.{Pair, Triple}
 use Rattle.scale_space.specs.Divisors.{largest, Reduced}
@@ -47,7 +47,7 @@ Prime (Triple a b c) = Reduced (a ∷ b ∷ c ∷ []) × Unsplit a b c
 
 -- the passes are primes, and piled they have the taps ts
 pub record Factored (ps : List Pass) (ts : List ℕ) : Type 0 where
-  pub prime : All Prime ps
+  pub prime : AllByRecursion Prime ps
   pub piled : taps ps ≡ ts
 
 -- ---- how often a pass stands in a list

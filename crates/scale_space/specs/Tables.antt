@@ -1,6 +1,6 @@
 -- Prime tables: the primes of passes in order, each in one record with how often it stands.
 use Rattle.std.specs.Prelude.{◌≡◌, ℕ, ◌+◌, ◌<◌, Bool, true, false, cond, ◌&&◌, ◌||◌, List, [], ◌∷◌, fold, ◌==◌, nat_lt}
-use Rattle.std.specs.List.{AllByRecursion as All}
+use Rattle.std.specs.List.{AllByRecursion}
 use Rattle.scale_space.specs.declared.passes.Pass.{Pass}
 use Rattle.scale_space.specs.declared.passes.Pass.TheVariants.{Pair, Triple}
 use Rattle.scale_space.specs.declared.primes.PrimeCount.{PrimeCount}
@@ -41,10 +41,10 @@ held p (r ∷ rs) = cond (same p r.prime) r.count 0 + held p rs
 -- each prime comes before all those behind it
 abbrev pub Ordered : List PrimeCount → Type 0
 Ordered [] = Unit {0}
-Ordered (r ∷ rs) = All (λ s. before r.prime s.prime ≡ true) rs × Ordered rs
+Ordered (r ∷ rs) = AllByRecursion (λ s. before r.prime s.prime ≡ true) rs × Ordered rs
 
 -- strictly in order, no record for nothing, and each prime as often as it stands
 pub record Tabulates (ps : List Pass) (rs : List PrimeCount) : Type 0 where
   pub ordered : Ordered rs
-  pub positive : All (λ r. 0 < r.count) rs
+  pub positive : AllByRecursion (λ r. 0 < r.count) rs
   pub counts : (p : Pass) → held p rs ≡ count p ps

@@ -1,6 +1,6 @@
 -- Lists of passes: their product, and what is left of them when one is removed.
 use Rattle.std.proofs.Common.{◌≡◌, ℕ, zero, suc, ◌+◌, ◌*◌, ◌<◌, ◌≤◌, List, [], ◌∷◌, ◌++◌, length, get_or, take, drop, ap, ◌∙◌, mul-le-mul_left, le-mul_of_pos_right, arith}
-use Rattle.std.specs.List.{remove, AllByRecursion as All}
+use Rattle.std.specs.List.{remove, AllByRecursion}
 use Rattle.std.proofs.ByRecursion.{All-append, All-take, All-drop}
 use Rattle.std.proofs.lemmas.List.{take-append-drop, take-take, take_more}
 use Rattle.scale_space.specs.declared.passes.Pass.{Pass}
@@ -27,20 +27,20 @@ pub product_more : (xs : List Pass) (i : ℕ) (d : Pass) → i < length xs → p
 product_more xs i d h = ap product (take_more xs i d h) ∙ product_push (take i xs) (get_or xs i d)
 
 -- each front has at most the whole product
-product_take_le : (xs : List Pass) (i : ℕ) → All Proper xs → product (take i xs) ≤ product xs
+product_take_le : (xs : List Pass) (i : ℕ) → AllByRecursion Proper xs → product (take i xs) ≤ product xs
 product_take_le xs i h =
     let m = le-mul_of_pos_right (product (take i xs)) (product_some (drop i xs) (All-drop Proper i xs h)) in
     omega (arith, m, product_append (take i xs) (drop i xs), ap product (take-append-drop i xs))
 
 -- within the first n, what one more factor makes stays below a bound of the whole
-pub product_more_le : (xs : List Pass) (n i b : ℕ) (d : Pass) → i < n → n ≤ length xs → All Proper (take n xs) → product (take n xs) ≤ b → product (take i xs) * scale (weights (get_or xs i d)) ≤ b
+pub product_more_le : (xs : List Pass) (n i b : ℕ) (d : Pass) → i < n → n ≤ length xs → AllByRecursion Proper (take n xs) → product (take n xs) ≤ b → product (take i xs) * scale (weights (get_or xs i d)) ≤ b
 product_more_le xs n i b d h k g bound =
     omega (arith, product_more xs i d (omega arith), ap product (take-take (i + 1) n xs (omega arith)), product_take_le (take n xs) (i + 1) g)
 
-pub removed_proper : (xs : List Pass) (i : ℕ) → All Proper xs → All Proper (remove xs i)
+pub removed_proper : (xs : List Pass) (i : ℕ) → AllByRecursion Proper xs → AllByRecursion Proper (remove xs i)
 removed_proper xs i h = All-append Proper (take i xs) (drop (suc i) xs) (All-take Proper i xs h) (All-drop Proper (suc i) xs h)
 
-pub removed_product_le : (xs : List Pass) (i : ℕ) → All Proper xs → product (remove xs i) ≤ product xs
+pub removed_product_le : (xs : List Pass) (i : ℕ) → AllByRecursion Proper xs → product (remove xs i) ≤ product xs
 removed_product_le [] zero h = omega arith
 removed_product_le [] (suc i) h = omega arith
 removed_product_le (x ∷ xs) zero h = omega (arith, le-mul_of_pos_right (product xs) h.0.some)

@@ -2,7 +2,7 @@
 use Rattle.std.proofs.Common.{◌≡◌, ℕ, ◌≤◌, true, ◌&&◌, eqb, ltb, leb, List, [], ◌∷◌, refl, subst, arith}
 use Prim.Native.Nat.{◌∣◌}
 use native.Mathlib.Nat.{eq-one_of_dvd-one}
-use Rattle.std.specs.List.{AllByRecursion as All}
+use Rattle.std.specs.List.{AllByRecursion}
 use Rattle.std.proofs.lemmas.Bool.{and_parts, and_from, leb-true, le-leb, ltb-true, lt-ltb, eqb-true, eq-eqb}
 use Rattle.scale_space.specs.declared.passes.Pass.{Pass}
 use Rattle.scale_space.specs.declared.passes.Pass.TheVariants.{Pair, Triple}
@@ -12,11 +12,11 @@ use Rattle.scale_space.specs.Passes.{weights, admitted, Proper}
 use Rattle.scale_space.proofs.Divisors.{common_greatest}
 use Rattle.schedule.specs.Tests.{in_range, proper, all_proper}
 
-pub range_means : (ws : List ℕ) → in_range ws ≡ true → All (λ w. w ≤ 1000) ws
+pub range_means : (ws : List ℕ) → in_range ws ≡ true → AllByRecursion (λ w. w ≤ 1000) ws
 range_means [] h = tt
 range_means (w ∷ ws) h = let p = and_parts (leb w 1000) (in_range ws) h in (leb-true w 1000 p.0, range_means ws p.1)
 
-range_test : (ws : List ℕ) → All (λ w. w ≤ 1000) ws → in_range ws ≡ true
+range_test : (ws : List ℕ) → AllByRecursion (λ w. w ≤ 1000) ws → in_range ws ≡ true
 range_test [] h = refl
 range_test (w ∷ ws) h = and_from (leb w 1000) (in_range ws) (le-leb w 1000 h.0) (range_test ws h.1)
 
@@ -43,11 +43,11 @@ proper_test p h =
     (and_from (ltb 0 (scale ws)) (eqb (common ws) 1 && admitted p) (lt-ltb 0 (scale ws) h.some)
     (and_from (eqb (common ws) 1) (admitted p) (eq-eqb (common ws) 1 one) h.admissible))
 
-pub all_proper_means : (ps : List Pass) → all_proper ps ≡ true → All Proper ps
+pub all_proper_means : (ps : List Pass) → all_proper ps ≡ true → AllByRecursion Proper ps
 all_proper_means [] h = tt
 all_proper_means (p ∷ ps) h = let x = and_parts (proper p) (all_proper ps) h in (proper_means p x.0, all_proper_means ps x.1)
 
-pub all_proper_test : (ps : List Pass) → All Proper ps → all_proper ps ≡ true
+pub all_proper_test : (ps : List Pass) → AllByRecursion Proper ps → all_proper ps ≡ true
 all_proper_test [] h = refl
 all_proper_test (p ∷ ps) h = and_from (proper p) (all_proper ps) (proper_test p h.0) (all_proper_test ps h.1)
 

@@ -1,6 +1,6 @@
 -- Runs of calls.
 use Rattle.std.proofs.Common.{◌≡◌, ℕ, ◌+◌, ◌^◌, ◌<◌, ◌≤◌, cond, ◌&&◌, ltb, leb, List, [], ◌∷◌, ◌++◌, length, get_or, take, IfOk, Ok, Err, Result, sym, refl, ap, ◌∙◌, arith}
-use Rattle.std.specs.List.{remove, AllByRecursion as All}
+use Rattle.std.specs.List.{remove, AllByRecursion}
 use Rattle.std.proofs.ByRecursion.{All-append}
 use Rattle.std.proofs.lemmas.List.{take_all}
 use Rattle.std.proofs.lemmas.List.Sums.{fold_more}
@@ -56,7 +56,7 @@ pub told : (ps : List Pass) (call : Call) (r : Result ℕ Refusal) (qs : List Pa
 told ps call r qs e = rw (e.answer, e.after) (fair ps call)
 
 -- ---- what stands after one call
-standing_replaced : (ps ws : List Pass) → Standing ps → All Proper ws → Standing (replaced ps ws).after
+standing_replaced : (ps ws : List Pass) → Standing ps → AllByRecursion Proper ws → Standing (replaced ps ws).after
 standing_replaced ps ws s h =
     cond_both (leb (length ws) 24) (cond (leb (product ws) (2 ^ 40)) (stands ws) (refused ScaleTooLarge ps)) (refused TooManyPasses ps) (λ o. Standing o.after)
     (λ l. cond_both (leb (product ws) (2 ^ 40)) (stands ws) (refused ScaleTooLarge ps) (λ o. Standing o.after)

@@ -25,8 +25,8 @@ pub standing : (s : Schedule) → Standing (passes s)
 standing s = record { short = omega (arith, length_passes s, s.short); each = all_proper_means (passes s) s.proper; bounded = s.bounded }
 
 -- and back: the fields, from what is to stand
-pub held : (items : List Pass) (n : ℕ) (ws : List Pass) → length items ≡ 24 → n ≤ 24 → take n items ≡ ws → Standing ws → (length items ≡ 24) × ((n ≤ 24) × ((all_proper (take n items) ≡ true) × ((product (take n items) ≤ 2 ^ 40) × Unit {0})))
-held items n ws full short e s = (full, (short, (rw e (all_proper_test ws s.each), (rw e s.bounded, tt))))
+pub held : (items : List Pass) (n : ℕ) (ws : List Pass) → length items ≡ 24 → n ≤ 24 → take n items ≡ ws → Standing ws → record { full : length items ≡ 24; short : n ≤ 24; proper : all_proper (take n items) ≡ true; bounded : product (take n items) ≤ 2 ^ 40 }
+held items n ws full short e s = record { full = full; short = short; proper = rw e (all_proper_test ws s.each); bounded = rw e s.bounded }
 
 pub length_pushed : (s : Schedule) (p : Pass) → s.len + 1 ≡ length (passes s ++ p ∷ [])
 length_pushed s p = omega (arith, length_push (passes s) p, length_passes s)

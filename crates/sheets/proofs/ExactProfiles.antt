@@ -2,7 +2,7 @@
 use Rattle.std.proofs.Common.{◌≡◌, ℕ, zero, suc, ◌+◌, ◌*◌, ◌^◌, ◌<◌, ◌≤◌, true, false, eqb, ltb, List, [], ◌∷◌, ◌++◌, length, ℤ, pos, negsuc, Some, None, Ok, Err, codes, decimal, Option, Result, sym, refl, ap, ◌∙◌, subst, ⊎_elim, arith}
 use Rattle.std.specs.Option.{option_map}
 use Rattle.std.specs.Fmt.{signed_decimal}
-use Rattle.std.specs.List.{AllByRecursion as All}
+use Rattle.std.specs.List.{AllByRecursion}
 use Rattle.std.proofs.lemmas.Fmt.{decimal_nonempty, digits_decimal, length-decimal-le}
 use Rattle.std.proofs.ByRecursion.{All-append, All-push}
 use Rattle.std.proofs.lemmas.List.{length-append, length_push}
@@ -159,7 +159,7 @@ heights = record {
   front = fair_front;
 }
 
-lines_short : (hs : List ℤ) (k : ℕ) → k + length hs ≤ 2048 → All (λ h. height_lawful h ≡ true) hs → length (lines_of height_line k hs) ≤ 13 * length hs
+lines_short : (hs : List ℤ) (k : ℕ) → k + length hs ≤ 2048 → AllByRecursion (λ h. height_lawful h ≡ true) hs → length (lines_of height_line k hs) ≤ 13 * length hs
 lines_short [] k l a = omega arith
 lines_short (h ∷ hs) k l a =
     let s = (height_is h a.0).short in
@@ -167,7 +167,7 @@ lines_short (h ∷ hs) k l a =
     let r = lines_short hs (k + 1) (omega arith) a.1 in
     simp length-append (omega arith)
 
-plain : (ls : List (List ℕ)) → All (λ _. Unit {0}) ls
+plain : (ls : List (List ℕ)) → AllByRecursion (λ _. Unit {0}) ls
 plain [] = tt
 plain (l ∷ ls) = (tt, plain ls)
 

@@ -1,6 +1,6 @@
 -- A schedule sheet: what it gives may stand, a reduced one is the sheet of what it gives, and the sheet of what stands gives it.
 use Rattle.std.proofs.Common.{◌≡◌, ℕ, ◌+◌, ◌*◌, ◌^◌, ◌<◌, ◌≤◌, Bool, true, false, cond, eqb, ltb, leb, List, [], ◌∷◌, ◌++◌, length, take, drop, IfOk, Some, None, Ok, Err, codes, decimal, Option, Result, sym, refl, ap, ◌∙◌, subst, ⊎_elim, le-mul_of_pos_right, arith}
-use Rattle.std.specs.List.{AllByRecursion as All}
+use Rattle.std.specs.List.{AllByRecursion}
 use Rattle.std.proofs.lemmas.Fmt.{length-decimal-le}
 use Rattle.std.proofs.ByRecursion.{All-append, All-push}
 use Rattle.std.proofs.lemmas.List.{length-append, length_push, take_at}
@@ -39,7 +39,7 @@ abbrev Small : Pass → Type 0
 Small (Pair a b) = (a ≤ 1000) × (b ≤ 1000)
 Small (Triple a b c) = (a ≤ 1000) × (b ≤ 1000) × (c ≤ 1000)
 
-small : (p : Pass) → All (λ w. w ≤ 1000) (weights p) → Small p
+small : (p : Pass) → AllByRecursion (λ w. w ≤ 1000) (weights p) → Small p
 small (Pair a b) h = (h.0, h.1.0)
 small (Triple a b c) h = (h.0, h.1.0, h.1.1.0)
 
@@ -78,10 +78,10 @@ same_line k (Triple a b c) = refl
 -- ---- what a line came to
 
 -- a pass that was made passed each test
-made_ok : (p q : Pass) → made p ≡ Ok q → (q ≡ lowest p) × All (λ w. w ≤ 1000) (weights p) × (0 < scale (weights p)) × (admitted p ≡ true)
+made_ok : (p q : Pass) → made p ≡ Ok q → (q ≡ lowest p) × AllByRecursion (λ w. w ≤ 1000) (weights p) × (0 < scale (weights p)) × (admitted p ≡ true)
 made_ok p q e = go (in_range (weights p)) (ltb 0 (scale (weights p))) (admitted p) (range_means (weights p)) (ltb-true 0 (scale (weights p))) e
   where
-    go : (s t u : Bool) → (s ≡ true → All (λ w. w ≤ 1000) (weights p)) → (t ≡ true → 0 < scale (weights p)) → cond s (cond t (cond u (Ok (lowest p)) (Err NotAdmitted)) (Err AllZero)) (Err OutOfRange) ≡ Ok q → (q ≡ lowest p) × All (λ w. w ≤ 1000) (weights p) × (0 < scale (weights p)) × (u ≡ true)
+    go : (s t u : Bool) → (s ≡ true → AllByRecursion (λ w. w ≤ 1000) (weights p)) → (t ≡ true → 0 < scale (weights p)) → cond s (cond t (cond u (Ok (lowest p)) (Err NotAdmitted)) (Err AllZero)) (Err OutOfRange) ≡ Ok q → (q ≡ lowest p) × AllByRecursion (λ w. w ≤ 1000) (weights p) × (0 < scale (weights p)) × (u ≡ true)
     go true true true h k f = let x : lowest p ≡ q = cc in (sym x, h refl, k refl, refl)
     go true true false h k f = clash cc
     go true false u h k f = clash cc
@@ -91,7 +91,7 @@ made_ok p q e = go (in_range (weights p)) (ltb 0 (scale (weights p))) (admitted 
 pub record Joined (ps qs : List Pass) (o : Option Pass) : Type 0 where
   pub given : Pass
   pub is : o ≡ Some given
-  pub light : All (λ w. w ≤ 1000) (weights given)
+  pub light : AllByRecursion (λ w. w ≤ 1000) (weights given)
   pub proper : Proper (lowest given)
   pub stands : qs ≡ ps ++ lowest given ∷ []
   pub short : length qs ≤ 24
@@ -222,7 +222,7 @@ lines = record {
   keeps = λ k ps fs qs n h e.
       let j = joined_is k ps qs (pass_of fs) e in
       let q = lowest j.given in (
-        record { short = j.short; each = subst (All Proper) (sym j.stands) (All-push Proper ps q h.each j.proper); bounded = j.bounded },
+        record { short = j.short; each = subst (AllByRecursion Proper) (sym j.stands) (All-push Proper ps q h.each j.proper); bounded = j.bounded },
         omega (arith, length_push ps q, ap length j.stands),
       );
   from = λ k ps p n h. line_back k ps p h;
@@ -246,7 +246,7 @@ line_short (Triple a b c) s =
     let r = length-decimal-le 4 c (omega arith) (omega arith) (omega arith) in
     simp length-append (omega arith)
 
-lines_short : (ps : List Pass) (k : ℕ) → All Proper ps → length (lines_of pass_line k ps) ≤ 36 * length ps
+lines_short : (ps : List Pass) (k : ℕ) → AllByRecursion Proper ps → length (lines_of pass_line k ps) ≤ 36 * length ps
 lines_short [] k h = omega arith
 lines_short (p ∷ ps) k h = omega (arith, length-append (pass_line k p) (10 ∷ lines_of pass_line (k + 1) ps), ap length (same_line k p), line_short p (small p h.0.small), lines_short ps (k + 1) h.1)
 

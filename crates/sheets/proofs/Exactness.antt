@@ -1,6 +1,6 @@
 -- A sheet is the sheet of what it gives, and the sheet of lawful values gives them, if each line does so.
 use Rattle.std.proofs.Common.{◌≡◌, ℕ, ◌+◌, ◌≤◌, Bool, true, false, cond, ltb, List, [], ◌∷◌, ◌++◌, length, Ok, Err, Result, sym, refl, ap, ◌∙◌, subst, append_assoc, append-nil, arith}
-use Rattle.std.specs.List.{AllByRecursion as All}
+use Rattle.std.specs.List.{AllByRecursion}
 use Rattle.std.specs.Str.{bytes_eq}
 use Rattle.std.proofs.lemmas.Slice.Eq.{bytes_eq-Decides}
 use Rattle.std.proofs.lemmas.List.{length_push}
@@ -24,17 +24,17 @@ goes_on_is (Err f) next y e = clash cc
 goes_on_is (Ok x) next y e = (x, refl, e)
 
 module _ (names : List ℕ) (Plain : List ℕ → Type 0) where
-  titled_is : (ps ls : List (List ℕ)) → titled names ps ≡ Ok ls → (glue 10 ps ≡ names ++ (10 ∷ glue 10 ls)) × (All Plain ps → All Plain ls)
+  titled_is : (ps ls : List (List ℕ)) → titled names ps ≡ Ok ls → (glue 10 ps ≡ names ++ (10 ∷ glue 10 ls)) × (AllByRecursion Plain ps → AllByRecursion Plain ls)
   titled_is [] ls e = clash cc
   titled_is (p ∷ []) ls e = clash cc
   titled_is (p ∷ q ∷ ps) ls e =
       let t = is_ok (bytes_eq p names) (q ∷ ps) ls WrongNames e in
-      ((λ i. (bytes_eq-Decides p names).0 t.0 i ++ (10 ∷ glue 10 (t.1 i))), λ a. subst (All Plain) t.1 a.1)
+      ((λ i. (bytes_eq-Decides p names).0 t.0 i ++ (10 ∷ glue 10 (t.1 i))), λ a. subst (AllByRecursion Plain) t.1 a.1)
 
-  opened_is : (bytes : List ℕ) (ls : List (List ℕ)) → opened names bytes ≡ Ok ls → (bytes ≡ names ++ (10 ∷ glue 10 ls)) × (All Plain (cut 10 bytes) → All Plain ls)
+  opened_is : (bytes : List ℕ) (ls : List (List ℕ)) → opened names bytes ≡ Ok ls → (bytes ≡ names ++ (10 ∷ glue 10 ls)) × (AllByRecursion Plain (cut 10 bytes) → AllByRecursion Plain ls)
   opened_is bytes ls e = go (ltb 32768 (length bytes)) e
     where
-      go : (t : Bool) → cond t (Err TooLong) (titled names (cut 10 bytes)) ≡ Ok ls → (bytes ≡ names ++ (10 ∷ glue 10 ls)) × (All Plain (cut 10 bytes) → All Plain ls)
+      go : (t : Bool) → cond t (Err TooLong) (titled names (cut 10 bytes)) ≡ Ok ls → (bytes ≡ names ++ (10 ∷ glue 10 ls)) × (AllByRecursion Plain (cut 10 bytes) → AllByRecursion Plain ls)
       go true f = clash cc
       go false f = let t = titled_is (cut 10 bytes) ls f in (sym (glue_cut 10 bytes) ∙ t.0, t.1)
 
@@ -43,7 +43,7 @@ module _ {A : Type 0} {read : ℕ → List A → List (List ℕ) → Result (Lis
   abbrev Are : List (List ℕ) → ℕ → List A → List A → Type 0
   Are ls k xs ys = (zs : List A) × (ys ≡ xs ++ zs) × (glue 10 ls ≡ lines_of line k zs)
 
-  lines_are : (ls : List (List ℕ)) (k : ℕ) (xs ys : List A) → walked read k xs ls ≡ Ok ys → All Plain ls → Are ls k xs ys
+  lines_are : (ls : List (List ℕ)) (k : ℕ) (xs ys : List A) → walked read k xs ls ≡ Ok ys → AllByRecursion Plain ls → Are ls k xs ys
   lines_are [] k xs ys e p = let x : xs ≡ ys = cc in ([], sym x ∙ sym (append-nil xs), refl)
   lines_are ([] ∷ []) k xs ys e p = let x : xs ≡ ys = cc in ([], sym x ∙ sym (append-nil xs), refl)
   lines_are ((b ∷ bs) ∷ []) k xs ys e p = clash cc
@@ -75,7 +75,7 @@ module _ {A : Type 0} {read : ℕ → List A → List (List ℕ) → Result (Lis
       ∙ ap Ok (append_assoc xs (z ∷ []) zs)
 
   module _ (names bytes : List ℕ) (xs : List A) where
-    pub sheet_same : sheet names read bytes ≡ Ok xs → All Plain (cut 10 bytes) → bytes ≡ sheet_of names line xs
+    pub sheet_same : sheet names read bytes ≡ Ok xs → AllByRecursion Plain (cut 10 bytes) → bytes ≡ sheet_of names line xs
     sheet_same e p =
         let g = goes_on_is (opened names bytes) (walked read 0 []) xs e in
         let t = opened_is names Plain bytes g.0 g.1 in

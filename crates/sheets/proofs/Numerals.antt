@@ -1,6 +1,6 @@
 -- Numbers and cuts, there and back.
 use Rattle.std.proofs.Common.{◌≡◌, ℕ, ◌^◌, ◌<◌, true, not, ◌&&◌, eqb, List, [], ◌∷◌, ◌++◌, length, get_or, Some, decimal, sym, refl, ap, ◌∙◌, ⊎_elim, arith, rules}
-use Rattle.std.specs.List.{AllByRecursion as All}
+use Rattle.std.specs.List.{AllByRecursion}
 use Rattle.std.proofs.lemmas.Fmt.{decimal_nonempty, decimal_digit, decimal-digits_value, first_decimal, digits_decimal, digits_value-decimal}
 use Rattle.std.proofs.lemmas.Str.Parse.{IsNumeralModel, numerals_by_fold}
 use Rattle.std.proofs.lemmas.Bool.{and_parts, and_from, leb-true, eqb-true, eq-eqb, ne_eqb, cond-true, cond-false, cases_lt, cases_Bool}
@@ -32,7 +32,7 @@ natural_decimal n h =
 
 -- c does not stand in xs
 abbrev pub Free : ℕ → List ℕ → Type 0
-Free c xs = All (λ b. b ≡ c → ⊥) xs
+Free c xs = AllByRecursion (λ b. b ≡ c → ⊥) xs
 
 pub free_digits : (c : ℕ) (ds : List ℕ) → c < 48 → digits ds ≡ true → Free c ds
 free_digits c [] l h = tt

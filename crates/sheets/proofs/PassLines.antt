@@ -1,7 +1,7 @@
 -- What one value line of a schedule gives.
 use Rattle.std.proofs.Common.{◌≡◌, ℕ, ◌+◌, ◌^◌, ◌<◌, ◌≤◌, Bool, true, false, cond, ◌&&◌, leb, List, [], ◌∷◌, ◌++◌, map, length, Some, None, Ok, Err, Option, Result, sym, refl, ap, ◌∙◌, ⊎_elim, arith}
 use Rattle.std.specs.Option.{option_map, ok_or}
-use Rattle.std.specs.List.{AllByRecursion as All}
+use Rattle.std.specs.List.{AllByRecursion}
 use Rattle.std.proofs.lemmas.List.{length_push}
 use Rattle.std.proofs.lemmas.Bool.{leb-true, cond-false, cases_Bool}
 use Rattle.std.proofs.lemmas.Bool.Decides.{nat_tests}
@@ -148,7 +148,7 @@ capped_weights : (p : Pass) → weights (capped_pass p) ≡ map capped (weights 
 capped_weights (Pair a b) = refl
 capped_weights (Triple a b c) = refl
 
-capped_small : (p : Pass) → All (λ w. w ≤ 1000) (weights p) → capped_pass p ≡ p
+capped_small : (p : Pass) → AllByRecursion (λ w. w ≤ 1000) (weights p) → capped_pass p ≡ p
 capped_small (Pair a b) h =
     let x : capped a ≡ a = omega (arith, h.0) in
     let y : capped b ≡ b = omega (arith, h.1.0) in

@@ -1,7 +1,7 @@
 -- What a profile sheet says.
 use Rattle.std.specs.Prelude.{◌≡◌, ℕ, ◌+◌, ◌≤◌, Bool, true, cond, ◌&&◌, List, [], ◌∷◌, ◌++◌, length, ℤ, Some, None, Ok, Err, codes, decimal, Option, Result, ◌==◌, nat_lt}
 use Rattle.std.specs.Fmt.{signed_decimal}
-use Rattle.std.specs.List.{AllByRecursion as All}
+use Rattle.std.specs.List.{AllByRecursion}
 use Rattle.samples.specs.Answers.{height_lawful}
 use Rattle.sheets.specs.declared.faults.SheetFault.{SheetFault}
 use Rattle.sheets.specs.declared.faults.SheetFault.TheVariants.{Malformed, Refused}
@@ -55,7 +55,7 @@ profile_sheet hs = sheet_of (codes "station,height") height_line hs
 -- heights that a sheet may have
 pub record Fair (hs : List ℤ) : Type 0 where
   pub short : length hs ≤ 2048
-  pub each : All (λ h. height_lawful h ≡ true) hs
+  pub each : AllByRecursion (λ h. height_lawful h ≡ true) hs
 
 -- a sheet gives heights just where it is their sheet, and they are fair
 pub record ExactProfile : Type 0 where

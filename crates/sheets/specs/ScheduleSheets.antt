@@ -1,6 +1,6 @@
 -- What a schedule sheet says.
 use Rattle.std.specs.Prelude.{◌≡◌, ℕ, ◌+◌, cond, List, [], ◌∷◌, ◌++◌, length, Some, None, Ok, Err, codes, decimal, Option, Result, ◌==◌}
-use Rattle.std.specs.List.{AllByRecursion as All}
+use Rattle.std.specs.List.{AllByRecursion}
 use Rattle.scale_space.specs.declared.passes.Pass.{Pass}
 use Rattle.scale_space.specs.declared.passes.Pass.TheVariants.{Pair, Triple}
 use Rattle.scale_space.specs.Divisors.{Reduced}
@@ -92,7 +92,7 @@ ReducedLine l = (p : Pass) → pass_of (cut 44 l) ≡ Some p → Reduced (weight
 -- what a sheet gives may stand in a schedule; a sheet in reduced form is the sheet of what it gives; and back
 pub record ExactSchedule : Type 0 where
   pub stands : (bytes : List ℕ) (ps : List Pass) → schedule_of bytes ≡ Ok ps → Standing ps
-  pub same : (bytes : List ℕ) (ps : List Pass) → schedule_of bytes ≡ Ok ps → All ReducedLine (cut 10 bytes) → bytes ≡ schedule_sheet ps
+  pub same : (bytes : List ℕ) (ps : List Pass) → schedule_of bytes ≡ Ok ps → AllByRecursion ReducedLine (cut 10 bytes) → bytes ≡ schedule_sheet ps
   pub back : (ps : List Pass) → Standing ps → schedule_of (schedule_sheet ps) ≡ Ok ps
 
 -- a pass as the code holds it

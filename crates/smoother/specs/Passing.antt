@@ -1,7 +1,7 @@
 -- The laws of smoothers, for passes and for schedules of them.
 use Rattle.std.specs.Prelude.{◌≡◌, ℕ, zero, suc, ◌+◌, ◌-◌, ◌*◌, ◌^◌, ◌<◌, ◌≤◌, List, [], ◌∷◌, length, drop, ℤ, slice_index_or}
 use Rattle.std.proofs.Common.{sym, ap, ap₂, ◌∙◌, le-mul_of_pos_right, arith}
-use Rattle.std.specs.List.{AllByRecursion as All}
+use Rattle.std.specs.List.{AllByRecursion}
 use Rattle.std.proofs.lemmas.List.{drop_more, drop_all, length-drop}
 use Rattle.scale_space.specs.declared.passes.Pass.{Pass}
 use Rattle.scale_space.specs.declared.passes.Pass.TheVariants.{Pair, Triple}
@@ -25,13 +25,13 @@ pass_diminishing p h = admitted_diminish p h.admissible
 pub taps_short : (ps : List Pass) → length ps ≤ 24 → length (taps ps) ≤ 49
 taps_short ps h = omega (arith, taps_length ps, reach_le ps)
 
-pub taps_heavy : (ps : List Pass) → All Proper ps → 1 ≤ scale (taps ps)
+pub taps_heavy : (ps : List Pass) → AllByRecursion Proper ps → 1 ≤ scale (taps ps)
 taps_heavy ps h = omega (arith, product_is ps, product_some ps h)
 
 pub taps_light : (ps : List Pass) → product ps ≤ 2 ^ 40 → scale (taps ps) ≤ 2 ^ 40
 taps_light ps h = omega (arith, product_is ps)
 
-pub taps_diminishing : (ps : List Pass) → All Proper ps → Diminishing (taps ps)
+pub taps_diminishing : (ps : List Pass) → AllByRecursion Proper ps → Diminishing (taps ps)
 taps_diminishing [] h = diminishing_one
 taps_diminishing (p ∷ ps) (h, k) = (taps_pile (weights p) (taps ps) (weights_some p) (taps_some ps)).diminishing (pass_diminishing p h) (taps_diminishing ps k)
 
@@ -43,7 +43,7 @@ taps_draw ps hs = level_is ps hs ∙ (λ i. record { numerators = (weighed (taps
     e = omega (arith, product_is ps)
 
 -- ---- one more pass piled before those behind it
-product_drop : (ps : List Pass) (i : ℕ) → All Proper ps → product (drop i ps) ≤ product ps
+product_drop : (ps : List Pass) (i : ℕ) → AllByRecursion Proper ps → product (drop i ps) ≤ product ps
 product_drop ps zero h = omega arith
 product_drop [] (suc i) h = omega arith
 product_drop (p ∷ ps) (suc i) (h, k) = omega (arith, product_drop ps i k, le-mul_of_pos_right (product ps) h.some)

@@ -1,6 +1,6 @@
 -- The profile is put at the front, and what is then laid on it is the level of the first k passes.
 use Rattle.std.proofs.Common.{length, sym, ap, ◌∙◌, subst, arith}
-use Rattle.std.specs.List.{AllByRecursion as All}
+use Rattle.std.specs.List.{AllByRecursion}
 use Rattle.std.proofs.ByRecursion.{All-take}
 use Rattle.scale_space.specs.Passes.{Proper, reach, product}
 use Rattle.levels.specs.Drawing.{heights_lawful}
@@ -19,7 +19,7 @@ lay_all-requires c =
     let ok = passed ps k hs (length old) c.in_ok-check.field-0 c.in_ok-check.ensures in
     let first = first_is ps k hs old new same in
     record {
-      proper = subst (All Proper) (sym first) (All-take Proper k ps c.requires.proper);
+      proper = subst (AllByRecursion Proper) (sym first) (All-take Proper k ps c.requires.proper);
       bounded = omega (arith, ap product first, product_first k ps c.requires.proper);
       room = front_room ps k hs old new same;
       long = omega (arith, ap reach first, ok.long);

@@ -1,6 +1,6 @@
 -- The table has a place for each sample, so all turns are found.
 use Rattle.std.proofs.Common.{◌++◌, length, sym, ap, subst, arith}
-use Rattle.std.specs.List.{flat_map, AllByRecursion as All}
+use Rattle.std.specs.List.{flat_map, AllByRecursion}
 use Rattle.listing.specs.Listing.{turn_line, names}
 use Rattle.listing.proofs.RoundedTurns.{Small}
 use Rattle.listing.proofs.Turning.{turns_few}
@@ -17,7 +17,7 @@ write_rounded-requires c =
     let part = found_part xs 2048 c.requires.short c.in-Ok.count c.in-Ok.ensures.answer _ c.find.new.table c.in-Ok.ensures.places in
     record {
       lawful = c.requires.lawful;
-      small = subst (All (Small c.args.scale)) (sym part) (turns_small c.args.scale xs c.requires.fits);
+      small = subst (AllByRecursion (Small c.args.scale)) (sym part) (turns_small c.args.scale xs c.requires.fits);
       short = omega (arith, ap length part, turns_few xs, c.requires.short);
     }
 

@@ -1,6 +1,6 @@
 -- Each pass is proper and finds room, and in the end all are in the table.
 use Rattle.std.proofs.Common.{◌≡◌, length, get_or, take, fold, sym, ap, ◌∙◌, subst, arith}
-use Rattle.std.specs.List.{AllByRecursion as All}
+use Rattle.std.specs.List.{AllByRecursion}
 use Rattle.std.proofs.ByRecursion.{All-get_or}
 use Rattle.std.proofs.lemmas.List.{length-take-le, take_all}
 use Rattle.scale_space.specs.declared.passes.Pass.TheVariants.{Pair}
@@ -24,7 +24,7 @@ take-requires c =
     let s = c.as_slice-all.ensures.standing in
     let l = c.loop-pass-test.true in
     record {
-      proper = All-get_or Proper ps i (Pair 0 0) l (subst (All Proper) (sym e) s.each);
+      proper = All-get_or Proper ps i (Pair 0 0) l (subst (AllByRecursion Proper) (sym e) s.each);
       room = omega (arith, ap counted c.loop-pass.invariant, counted_le (take i ps), length-take-le i ps (omega arith), ap length e, s.short);
     }
 
