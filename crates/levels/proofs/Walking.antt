@@ -27,15 +27,15 @@ use Rattle.levels.proofs.Checking.{passed, front_is}
 
 -- what the fields of a walk owe
 abbrev pub Sound : List Pass → ℕ → ℕ → List ℤ → ℕ → ℕ → Type 0
-Sound ps last k samples count s =
-    (length samples ≡ 2048)
-    × ((count ≤ 2048)
-    × ((last ≤ length ps)
-    × ((reach (drop k (take last ps)) < count)
-    × ((1 ≤ s)
-    × ((s * product (drop k (take last ps)) ≤ 2 ^ 40)
-    × ((heights_fit s (take count samples) ≡ true)
-    × Unit {0}))))))
+Sound ps last k samples count s = record {
+  full : length samples ≡ 2048;
+  short : count ≤ 2048;
+  inside : last ≤ length ps;
+  long : reach (drop k (take last ps)) < count;
+  some : 1 ≤ s;
+  bounded : s * product (drop k (take last ps)) ≤ 2 ^ 40;
+  fit : heights_fit s (take count samples) ≡ true;
+}
 
 -- ---- setting out
 module _ (sched : Schedule) (last : ℕ) (hs : List ℤ) (ok : allowed (passes sched) last hs (length hs) ≡ Ok tt) (old new : List ℤ) (same : new ≡ hs ++ drop (length hs) old) where
@@ -46,7 +46,15 @@ module _ (sched : Schedule) (last : ℕ) (hs : List ℤ) (ok : allowed (passes s
   begun_sound full =
       let pass = passed (passes sched) last hs (length hs) tt (sym ok) in
       let small = product_first last (passes sched) (standing sched).each in
-      (full, (pass.short, (pass.inside, (pass.long, (omega arith, (omega (arith, small, sched.bounded), (rw heights (within_fit 1 hs (lawful_within hs pass.lawful)), tt)))))))
+      record {
+        full = full;
+        short = pass.short;
+        inside = pass.inside;
+        long = pass.long;
+        some = omega arith;
+        bounded = omega (arith, small, sched.bounded);
+        fit = rw heights (within_fit 1 hs (lawful_within hs pass.lawful));
+      }
 
   pub begun_held : record { numerators = take (length hs) new; scale = 1 } ≡ ground hs
   begun_held = λ j. record { numerators = heights j; scale = 1 }
@@ -129,7 +137,15 @@ module _ (w : Walk) (more : w.level < w.last) (ps : List Pass) (same : ps ≡ pa
         let some : 1 ≤ r.scale = rw larger (mul-pos w.some proper.some) in
         let bounded : r.scale * product (drop (w.level + 1) (way w)) ≤ 2 ^ 40 = rw larger (omega (arith, room)) in
         let smooth = (admitted_smooth p proper.admissible (come_to w) w.some).bounded (negsuc 99999) (pos 100000) held in
-        (full ∙ w.full, (omega (arith, shorter, w.short, weights_some p), (w.inside, (long, (some, (bounded, (rw (larger, front) (within_fit _ _ smooth), tt)))))))
+        record {
+          full = full ∙ w.full;
+          short = omega (arith, shorter, w.short, weights_some p);
+          inside = w.inside;
+          long = long;
+          some = some;
+          bounded = bounded;
+          fit = rw (larger, front) (within_fit _ _ smooth);
+        }
 
 -- ---- the law
 pub climbs : (w v : Walk) (r : Bool) → Stepped w r v → (ps : List Pass) (last k : ℕ) (hs : List ℤ) → At w ps last k hs → k < last → At v ps last (k + 1) hs

@@ -1,6 +1,6 @@
 -- The weights of the pass are those that are laid, and their sum is its scale.
 use Rattle.std.proofs.Common.{◌*◌, length, take, sym, ap, ◌∙◌, subst, arith}
-use Rattle.scale_space.specs.Taps.{scale, windows}
+use Rattle.scale_space.specs.Taps.{windows}
 use Rattle.scale_space.specs.Passes.{weights}
 use Rattle.levels.specs.Drawing.{laid, Light}
 use Rattle.levels.proofs.Stepping.{pair_scale, triple_scale}
