@@ -65,5 +65,5 @@ pub counted_inserted : (rs : List PrimeCount) (k : ℕ) (r : PrimeCount) → cou
 counted_inserted rs k r = omega (arith, sum_by-append the_count (take k rs) (r ∷ drop k rs), sum_by-cons the_count r (drop k rs), sum_by-take-drop the_count rs k)
 
 -- the ghost fields of a table, from what is to stand in it
-pub held : (records : List PrimeCount) (n : ℕ) (rs : List PrimeCount) → length records ≡ 48 → take n records ≡ rs → n ≤ counted rs → counted rs ≤ 48 → (length records ≡ 48) × ((n ≤ counted (take n records)) × ((counted (take n records) ≤ 48) × Unit {0}))
-held records n rs full e some bounded = (full, (rw e some, (rw e bounded, tt)))
+pub held : (records : List PrimeCount) (n : ℕ) (rs : List PrimeCount) → length records ≡ 48 → take n records ≡ rs → n ≤ counted rs → counted rs ≤ 48 → record { full : length records ≡ 48; some : n ≤ counted (take n records); bounded : counted (take n records) ≤ 48 }
+held records n rs full e some bounded = record { full = full; some = rw e some; bounded = rw e bounded }

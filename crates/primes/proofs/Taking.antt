@@ -5,7 +5,6 @@ use Rattle.scale_space.specs.declared.passes.Pass.{Pass}
 use Rattle.scale_space.specs.declared.passes.Pass.TheVariants.{Triple}
 use Rattle.scale_space.specs.Divisors.{Reduced}
 use Rattle.scale_space.specs.Passes.{Proper}
-use Rattle.scale_space.specs.Primes.{primes}
 use Rattle.scale_space.specs.Tables.{table}
 use Rattle.scale_space.proofs.Factors.{primes_length}
 use Rattle.scale_space.proofs.Entries.{counted_table}

@@ -11,7 +11,7 @@ pub returns-then-eq : goal.returns-then-eq
 returns-then-eq c =
     let x = c.args.x.now in
     let y = c.args.y.now in
-    let same : SameTable (passes x) (passes y) = sym c.of-p.ensures.is ∙ c.eq.ensures.0 c.if-eq.true ∙ c.of-q.ensures.is in
+    let same : SameTable (passes x) (passes y) = sym c.of-p.ensures.is ∙ c.eq.ensures.same.0 c.if-eq.true ∙ c.of-q.ensures.is in
     let s = says_equal (passes x) (passes y) (standing x) (standing y) same in
     record { tables = s.tables; levels = s.levels; samples = s.samples }
 
@@ -19,6 +19,6 @@ pub returns-else-eq : goal.returns-else-eq
 returns-else-eq c =
     let x = c.args.x.now in
     let y = c.args.y.now in
-    let differ : SameTable (passes x) (passes y) → ⊥ = λ e. both_ways c.eq.result c.if-eq.false (c.eq.ensures.1 (c.of-p.ensures.is ∙ e ∙ sym c.of-q.ensures.is)) in
+    let differ : SameTable (passes x) (passes y) → ⊥ = λ e. both_ways c.eq.result c.if-eq.false (c.eq.ensures.same.1 (c.of-p.ensures.is ∙ e ∙ sym c.of-q.ensures.is)) in
     let s = says_different (passes x) (passes y) (standing x) (standing y) differ in
     record { tables = s.tables; levels = s.levels; samples = s.samples }

@@ -11,11 +11,11 @@ use Rattle.primes.proofs.tables.equal.PrimeTablePartialEq.eq.Goals as goal
 same_record_decides : (r s : PrimeCount) → Decides (same_record r s) (r ≡ s)
 same_record_decides r s = (
   λ t.
-    let h = and_parts _ _ t in
-    let prime = same_true r.prime s.prime h.0 in
-    let count = (Decides-eqb r.count s.count).0 h.1 in
-    (λ j. record { prime = prime j; count = count j }),
-  λ e. subst (λ z. same_record r z ≡ true) e (and_from _ _ (same_self r.prime) ((Decides-eqb r.count r.count).1 refl))
+      let h = and_parts _ _ t in
+      let prime = same_true r.prime s.prime h.0 in
+      let count = (Decides-eqb r.count s.count).0 h.1 in
+      (λ j. record { prime = prime j; count = count j }),
+  λ e. subst (λ z. same_record r z ≡ true) e (and_from _ _ (same_self r.prime) ((Decides-eqb r.count r.count).1 refl)),
 )
 
 pub returns-clause-same : goal.returns-clause-same
