@@ -1,10 +1,7 @@
 -- The two fields of a value line.
-use Rattle.std.proofs.Common.{Ok, Err, sym, ap, ◌∙◌, w64, SFits, rules}
+use Rattle.std.proofs.Common.{Ok, Err, ap, ◌∙◌, w64, SFits, rules}
 use Rattle.std.proofs.lemmas.Result.{err_from_is_err_and}
 use Rattle.std.proofs.lemmas.Int.{to_z-of_z}
-use Rattle.std.specs.Option.{option_map, ok_or}
-use Rattle.sheets.specs.declared.faults.SheetFault.TheVariants.{Malformed}
-use Rattle.sheets.specs.Profiles.{capped_both}
 use Rattle.sheets.proofs.HeightLines.{value_ok, value_left, value_right}
 use Rattle.sheets.proofs.profiles.value_line.Goals as goal
 
