@@ -8,7 +8,7 @@ use Rattle.sheets.proofs.decimals.put_decimal.Goals as goal
 
 pub returns-in_err-at : goal.returns-in_err-at
 returns-in_err-at c =
-    let p = err_from_is_err_and c.from-residual.result c.from-residual.ensures.1 in
+    let p = err_from_is_err_and c.from_residual.result c.from_residual.ensures.1 in
     let z = to_z-of_z w64 c.args.n c.ranges.n in
     let q = put_none c.args.n c.unsigned_abs.result c.args.field.now c.put_digits.new.field c.in_err-at.field-0.0 (c.unsigned_abs.ensures.value ∙ ap nat_abs z) c.in_err-at.ensures.place c.in_err-at.ensures.bytes in
     record { place = p.1 ∙ ap Err p.2 ∙ q.0; bytes = q.1 }

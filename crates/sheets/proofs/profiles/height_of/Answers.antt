@@ -19,5 +19,5 @@ returns-else-fits c =
 
 pub returns-in_err-station : goal.returns-in_err-station
 returns-in_err-station c =
-    let p = err_from_is_err_and c.from-residual.result c.from-residual.ensures.1 in
+    let p = err_from_is_err_and c.from_residual.result c.from_residual.ensures.1 in
     p.1 ∙ ap Err p.2 ∙ height_malformed c.args.line.now c.args.k _ c.in_err-station.ensures

@@ -11,7 +11,7 @@ use Rattle.sheets.proofs.profiles.read_heights.Goals as goal
 
 pub returns-in_err-height : goal.returns-in_err-height
 returns-in_err-height c =
-    let p = err_from_is_err_and c.from-residual.result c.from-residual.ensures.1 in
+    let p = err_from_is_err_and c.from_residual.result c.from_residual.ensures.1 in
     let hs = take c.loop-rest.count c.loop-rest.table in
     rw (p.1, p.2)
     (sym c.loop-rest.invariant.2

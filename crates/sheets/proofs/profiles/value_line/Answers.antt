@@ -1,16 +1,13 @@
 -- The two fields of a value line.
-use Rattle.std.proofs.Common.{Ok, Err, sym, ap, ◌∙◌, w64, SFits, rules}
+use Rattle.std.proofs.Common.{Ok, Err, ap, ◌∙◌, w64, SFits, rules}
 use Rattle.std.proofs.lemmas.Result.{err_from_is_err_and}
 use Rattle.std.proofs.lemmas.Int.{to_z-of_z}
-use Rattle.std.specs.Option.{option_map, ok_or}
-use Rattle.sheets.specs.declared.faults.SheetFault.TheVariants.{Malformed}
-use Rattle.sheets.specs.Profiles.{capped_both}
 use Rattle.sheets.proofs.HeightLines.{value_ok, value_left, value_right}
 use Rattle.sheets.proofs.profiles.value_line.Goals as goal
 
 pub returns-in_err-height : goal.returns-in_err-height
 returns-in_err-height c =
-    let p = err_from_is_err_and c.from-residual-in_err-height.result c.from-residual-in_err-height.ensures.1 in
+    let p = err_from_is_err_and c.from_residual-in_err-height.result c.from_residual-in_err-height.ensures.1 in
     let h = c.in_err-height.ensures c.in-Some.rest.now c.args.number c.new-2.ensures in
     p.1 ∙ ap Err p.2
     ∙ value_right c.args.line.now c.in-Some.station.now c.in-Some.rest.now c.args.number c.in-Some.ensures.0
@@ -18,7 +15,7 @@ returns-in_err-height c =
 
 pub returns-in_err-station : goal.returns-in_err-station
 returns-in_err-station c =
-    let p = err_from_is_err_and c.from-residual.result c.from-residual.ensures.1 in
+    let p = err_from_is_err_and c.from_residual.result c.from_residual.ensures.1 in
     let s = c.in_err-station.ensures c.in-Some.station.now c.args.number c.new.ensures in
     p.1 ∙ ap Err p.2
     ∙ value_left c.args.line.now c.in-Some.station.now c.in-Some.rest.now c.args.number c.in-Some.ensures.0

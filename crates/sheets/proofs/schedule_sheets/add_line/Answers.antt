@@ -12,5 +12,5 @@ returns-in-Err c = line_refused c.args.line.now c.args.k (passes c.args.schedule
 
 pub returns-in_err-pass : goal.returns-in_err-pass
 returns-in_err-pass c =
-    let p = err_from_is_err_and c.from-residual.result c.from-residual.ensures.1 in
+    let p = err_from_is_err_and c.from_residual.result c.from_residual.ensures.1 in
     rw (p.1, p.2) (line_malformed c.args.line.now c.args.k (passes c.args.schedule.now) c.in_err-pass.field-0.0 c.in_err-pass.ensures)

@@ -8,12 +8,12 @@ use Rattle.sheets.proofs.schedule_sheets.read_pair.Goals as goal
 
 pub returns-in_err-a : goal.returns-in_err-a
 returns-in_err-a c x y n s t =
-    let p = err_from_is_err_and c.from-residual.result c.from-residual.ensures.1 in
+    let p = err_from_is_err_and c.from_residual.result c.from_residual.ensures.1 in
     p.1 ∙ ap Err p.2 ∙ pair_first (Malformed n) (natural x) (natural y) c.in_err-a.field-0.0 (c.in_err-a.ensures x n s)
 
 pub returns-in_err-b : goal.returns-in_err-b
 returns-in_err-b c x y n s t =
-    let p = err_from_is_err_and c.from-residual-in_err-b.result c.from-residual-in_err-b.ensures.1 in
+    let p = err_from_is_err_and c.from_residual-in_err-b.result c.from_residual-in_err-b.ensures.1 in
     p.1 ∙ ap Err p.2 ∙ pair_second (Malformed n) (natural x) (natural y) c.in_err-b.field-0.0 (c.in_err-b.ensures y n t)
 
 pub returns : goal.returns

@@ -9,7 +9,7 @@ use Rattle.sheets.proofs.schedule_sheets.read_passes.Goals as goal
 
 pub returns-in_err-count : goal.returns-in_err-count
 returns-in_err-count c =
-    let p = err_from_is_err_and c.from-residual.result c.from-residual.ensures.1 in
+    let p = err_from_is_err_and c.from_residual.result c.from_residual.ensures.1 in
     rw (p.1, p.2)
     (sym c.loop-rest.invariant.2
     ∙ walked_stop with_pass c.loop-rest.count (passes c.loop-rest.built) c.loop-rest.rest.now c.in-Some.line.now c.in-Some.after.now c.in_err-count.field-0.0 c.in-Some.ensures.0 c.in_err-count.ensures)

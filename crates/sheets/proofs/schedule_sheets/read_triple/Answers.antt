@@ -8,17 +8,17 @@ use Rattle.sheets.proofs.schedule_sheets.read_triple.Goals as goal
 
 pub returns-in_err-a : goal.returns-in_err-a
 returns-in_err-a c x y z n s t u =
-    let p = err_from_is_err_and c.from-residual.result c.from-residual.ensures.1 in
+    let p = err_from_is_err_and c.from_residual.result c.from_residual.ensures.1 in
     p.1 ∙ ap Err p.2 ∙ triple_first (Malformed n) (natural x) (natural y) (natural z) c.in_err-a.field-0.0 (c.in_err-a.ensures x n s)
 
 pub returns-in_err-b : goal.returns-in_err-b
 returns-in_err-b c x y z n s t u =
-    let p = err_from_is_err_and c.from-residual-in_err-b.result c.from-residual-in_err-b.ensures.1 in
+    let p = err_from_is_err_and c.from_residual-in_err-b.result c.from_residual-in_err-b.ensures.1 in
     p.1 ∙ ap Err p.2 ∙ triple_second (Malformed n) (natural x) (natural y) (natural z) c.in_err-b.field-0.0 (c.in_err-b.ensures y n t)
 
 pub returns-in_err-c : goal.returns-in_err-c
 returns-in_err-c c x y z n s t u =
-    let p = err_from_is_err_and c.from-residual-in_err-c.result c.from-residual-in_err-c.ensures.1 in
+    let p = err_from_is_err_and c.from_residual-in_err-c.result c.from_residual-in_err-c.ensures.1 in
     p.1 ∙ ap Err p.2 ∙ triple_third (Malformed n) (natural x) (natural y) (natural z) c.in_err-c.field-0.0 (c.in_err-c.ensures z n u)
 
 pub returns : goal.returns

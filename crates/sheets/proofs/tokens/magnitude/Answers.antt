@@ -27,7 +27,7 @@ pub returns-in_err-digit : goal.returns-in_err-digit
 returns-in_err-digit c =
     let text = c.args.text.now in
     let i = c.loop-byte.byte-index in
-    c.from-residual.ensures
+    c.from_residual.ensures
     ∙ sym (reads_stop c.loop-byte.n (get_or text i 0) (drop (i + 1) text) (digit_none (get_or text i 0) c.in_err-digit.ensures))
     ∙ sym (at_drop_more (reads c.loop-byte.n) text i 0 (omega arith))
     ∙ c.loop-byte.invariant.1
