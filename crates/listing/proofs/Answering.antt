@@ -1,5 +1,5 @@
 -- What the call for one level answers, from what was written.
-use Rattle.std.proofs.Common.{◌≡◌, ℕ, Bool, true, false, cond, leb, List, ◌++◌, length, take, drop, ℤ, Ok, Err, Result, sym, refl, ap, ◌∙◌, ap₂, arith}
+use Rattle.std.proofs.Common.{◌≡◌, ℕ, Bool, true, false, cond, leb, List, ◌++◌, length, drop, ℤ, Ok, Err, Result, sym, refl, ap, ◌∙◌, ap₂}
 use Rattle.scale_space.specs.declared.passes.Pass.{Pass}
 use Rattle.samples.specs.declared.refusals.Refusal.{Refusal}
 use Rattle.levels.specs.declared.walks.Walk.{Walk}

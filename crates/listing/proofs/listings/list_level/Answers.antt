@@ -1,6 +1,5 @@
 -- The walk has climbed to level k, and its listing is that level's.
 use Rattle.std.proofs.Common.{arith}
-use Rattle.schedule.specs.Calls.{passes}
 use Rattle.listing.proofs.Answering.{same_text, listed_ok, listed_err, listed_after}
 use Rattle.listing.proofs.listings.list_level.Goals as goal
 
