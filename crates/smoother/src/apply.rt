@@ -39,9 +39,9 @@ fn lay(taps: &[u64], samples: &[i64], out: &mut [i64]) -> Result<usize, Refusal>
 /// whatever its kind. Whatever the level and its scale, what comes out has no more turns, crosses no whole height more
 /// often, and stays between the lowest and the highest sample.
 pub fn apply<S: Smoother>(s: &S, samples: &[i64], out: &mut [i64]) -> Result<usize, Refusal>
-    ensures answer { result ≡ applied (taps s.now) samples.now (length out.old) }
-    ensures places { out.new ≡ written result (windows (taps s.now) samples.now) out.old }
-    ensures calm { Smooths (taps s.now) }
+    ensures answer { result ≡ applied (S.taps s.now) samples.now (length out.old) }
+    ensures places { out.new ≡ written result (windows (S.taps s.now) samples.now) out.old }
+    ensures calm { Smooths (S.taps s.now) }
 {
     let taps = s.show();
     lay(taps.as_slice(), samples, out)

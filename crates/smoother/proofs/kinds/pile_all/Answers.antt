@@ -1,5 +1,5 @@
 -- Each pass is piled before those behind it, and no pile passes a limit.
-use Rattle.std.proofs.Common.{◌≡◌, ◌-◌, ◌<◌, length, sym, ◌∙◌, subst, arith}
+use Rattle.std.proofs.Common.{◌-◌, ◌<◌, length, sym, ◌∙◌, subst, arith}
 use Rattle.schedule.specs.Standing.{Standing}
 use Rattle.scale_space.specs.declared.passes.Pass.TheVariants.{Pair}
 use Rattle.smoother.specs.TapLists.{shown}
