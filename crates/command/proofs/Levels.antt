@@ -1,5 +1,5 @@
 -- The listings of the levels, put one behind the other.
-use Rattle.std.proofs.Common.{◌≡◌, ℕ, suc, ◌+◌, ◌-◌, ◌*◌, ◌<◌, ◌≤◌, Bool, true, false, cond, ltb, leb, List, [], ◌++◌, length, take, drop, ℤ, IfOk, Ok, Err, Result, sym, refl, ap, ◌∙◌, subst, ap₂, append_assoc, append-nil, add-one, arith}
+use Rattle.std.proofs.Common.{◌≡◌, ℕ, suc, ◌+◌, ◌-◌, ◌*◌, ◌<◌, ◌≤◌, true, false, List, [], ◌++◌, length, take, drop, ℤ, IfOk, Ok, Err, Result, sym, ap, ◌∙◌, subst, ap₂, append_assoc, append-nil, add-one, arith}
 use borrow.Rule.Slice.PartMut.{put_mid}
 use Rattle.std.proofs.lemmas.List.{length-append, length-take, length-drop, take_at, take_rest, drop_at, drop-drop, drop_all}
 use Rattle.std.proofs.lemmas.Bool.{le-leb, ltb-true, ltb-false, cond-true}
@@ -12,7 +12,6 @@ use Rattle.sheets.specs.declared.faults.SheetFault.{SheetFault}
 use Rattle.sheets.specs.Lines.{answer}
 use Rattle.sheets.proofs.Basics.{clash}
 use Rattle.listing.specs.Listing.{listing}
-use Rattle.listing.specs.Listings.{level_text}
 use Rattle.listing.proofs.Answering.{same_text}
 use Rattle.listing.proofs.Bounds.{listing_bound}
 use Rattle.command.specs.Answering.{listings, replied}

@@ -1,5 +1,5 @@
 -- What was read is what the sheets say.
-use Rattle.std.proofs.Common.{◌≡◌, ℕ, ◌-◌, ◌<◌, ◌≤◌, Bool, true, false, cond, ltb, leb, List, ◌++◌, length, take, drop, ℤ, Ok, Err, Result, sym, refl, ap, ◌∙◌, subst, ap₂, ⊎_elim, arith, MatchResult}
+use Rattle.std.proofs.Common.{◌≡◌, ℕ, ◌-◌, ◌<◌, ◌≤◌, true, List, ◌++◌, length, take, drop, ℤ, Ok, Err, Result, sym, refl, ap, ◌∙◌, subst, ap₂, ⊎_elim}
 use native.Mathlib.Nat.{sub-zero}
 use Rattle.std.proofs.lemmas.List.{take_at}
 use Rattle.std.proofs.lemmas.Bool.{cases_lt, le-leb, lt-leb, le-ltb, cond-true, cond-false}
@@ -7,16 +7,15 @@ use Rattle.scale_space.specs.declared.passes.Pass.{Pass}
 use Rattle.samples.specs.declared.refusals.Refusal.{Refusal}
 use Rattle.levels.specs.declared.walks.Walk.{Walk}
 use Rattle.levels.specs.Drawing.{allowed}
-use Rattle.levels.specs.Walks.{At, SetOut}
+use Rattle.levels.specs.Walks.{At}
 use Rattle.sheets.specs.declared.faults.SheetFault.{SheetFault}
 use Rattle.sheets.specs.declared.faults.SheetFault.TheVariants.{BufferTooShort}
 use Rattle.sheets.specs.Lines.{answer}
 use Rattle.sheets.proofs.Basics.{clash}
 use Rattle.sheets.specs.Profiles.{profile_of}
 use Rattle.sheets.specs.ScheduleSheets.{schedule_of, counted, in_place_of}
-use Rattle.listing.specs.declared.refusal_lines.Rejection.{Rejection}
-use Rattle.listing.specs.declared.refusal_lines.Rejection.TheVariants.{Schedule, Profile, Draw}
-use Rattle.command.specs.Asking.{Request, drawable, together, asked, SetsOut}
+use Rattle.listing.specs.declared.refusal_lines.Rejection.TheVariants.{Profile, Draw}
+use Rattle.command.specs.Asking.{Request, drawable, together, asked}
 use Rattle.command.specs.Parting.{parted}
 
 -- a schedule sheet that was read

@@ -1,5 +1,5 @@
 -- What the command prints.
-use Rattle.std.specs.Prelude.{ℕ, zero, suc, ◌+◌, cond, List, [], ◌++◌, length, drop, ℤ, Ok, Err, Result, nat_le}
+use Rattle.std.specs.Prelude.{ℕ, zero, suc, cond, List, [], ◌++◌, length, drop, ℤ, Ok, Err, Result, nat_le}
 use Rattle.scale_space.specs.declared.passes.Pass.{Pass}
 use Rattle.sheets.specs.declared.faults.SheetFault.{SheetFault}
 use Rattle.sheets.specs.declared.faults.SheetFault.TheVariants.{BufferTooShort}

@@ -1,5 +1,4 @@
 -- The sheets are read, and the walk sets out or not, as the definition says.
-use Rattle.std.proofs.Common.{sym, ◌∙◌}
 use Rattle.sheets.specs.Profiles.{profile_of}
 use Rattle.sheets.specs.ScheduleSheets.{schedule_of}
 use Rattle.command.proofs.Requests.{schedule_read, profile_read, profile_refused, profile_fault, walk_ready, walk_refused}
