@@ -4,10 +4,10 @@ use crate::generator::Generator;
 use crate::inputs::room_for;
 use crate::library::sheet_answer_of;
 use crate::lists::filled;
-use crate::second::command::{
+use crate::second::faults::{Answer, Fault};
+use crate::second::whole_command::{
     Origin, Output, ROOM, Rejected, printed, rejection_line, write_printed,
 };
-use crate::second::faults::{Answer, Fault};
 use crate::second::writing::write_text;
 use crate::tally::Tally;
 use crate::texts::stretched;

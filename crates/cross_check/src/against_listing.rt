@@ -9,7 +9,7 @@ use crate::library::{fault_of, sheet_answer_of};
 use crate::lists::filled;
 use crate::second;
 use crate::second::faults::{Answer, Fault};
-use crate::second::listing::level_text;
+use crate::second::level_listing::level_text;
 use crate::second::writing::write_text;
 use crate::tally::Tally;
 use levels::walks::Walk;
@@ -111,7 +111,7 @@ pub fn run_nearest() -> Tally {
         hear_height(
             &mut tally,
             library,
-            second::listing::nearest(numerator, scale),
+            second::level_listing::nearest(numerator, scale),
         );
     }
     tally

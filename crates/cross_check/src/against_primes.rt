@@ -3,7 +3,7 @@ use crate::both::Both;
 use crate::generator::Generator;
 use crate::inputs::both;
 use crate::library::weights_of;
-use crate::second::primes::{comes_before, is_prime, piled};
+use crate::second::prime_tables::{comes_before, is_prime, piled};
 use crate::second::taps::Taps;
 use crate::tally::Tally;
 use primes::tables::PrimeTable;

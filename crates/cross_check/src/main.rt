@@ -54,18 +54,18 @@ fn tallies(heap: Global) -> [Tally; 17] {
     ]
 }
 
-fn print_counts(rt: &HostRuntime, tallies: &[Tally]) -> anyhow::Result<()> {
+fn print_counts(rt: &impl Print, tallies: &[Tally]) -> anyhow::Result<()> {
     for tally in tallies.iter() {
-        rt.println(report::counts(rt.alloc(), tally))?;
+        report::counts(rt, tally)?;
     }
     Ok(())
 }
 
 /// Prints the first difference, and fails where there is one.
-fn check(rt: &HostRuntime, tallies: &[Tally]) -> anyhow::Result<()> {
+fn check(rt: &impl Print, tallies: &[Tally]) -> anyhow::Result<()> {
     for tally in tallies.iter() {
         if !tally.is_whole() {
-            rt.println(report::difference(rt.alloc(), tally))?;
+            report::difference(rt, tally)?;
             return Err(anyhow!("the two implementations differ"));
         }
     }
@@ -79,6 +79,6 @@ fn main(rt: HostRuntime) -> anyhow::Result<()> {
     print_counts(&rt, &of_command)?;
     check(&rt, &tallies)?;
     check(&rt, &of_command)?;
-    rt.println("all agree")?;
+    println!(rt; "all agree")?;
     Ok(())
 }

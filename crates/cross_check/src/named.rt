@@ -2,9 +2,9 @@
 use crate::both::{Both, Request};
 use crate::library::{answer_of, sheet_answer_of};
 use crate::lists::filled;
-use crate::second::command::{ROOM, printed};
 use crate::second::faults::{Answer, Fault};
 use crate::second::finding;
+use crate::second::whole_command::{ROOM, printed};
 use crate::tally::Tally;
 use command::answering::answer;
 use samples::{crossings, turns};

@@ -1,7 +1,7 @@
 //! The whole command: the input is split into lines, the first empty one found, both sheets read, and each level listed.
 use crate::lists::{filled, put, put_bytes};
 use crate::second::faults::{Answer, Fault};
-use crate::second::listing::{level_text, put_natural};
+use crate::second::level_listing::{level_text, put_natural};
 use crate::second::reading::{read_profile, read_schedule};
 use crate::second::schedules::PassList;
 use crate::second::writing::write_text;
