@@ -30,7 +30,7 @@
  *
  * The hek_ functions look for 30, for texts that are too long (24) and for more than 2,048 heights (7) before the call.
  *
- * Link libembedding.a and librattle_c.a.
+ * Link libembedding.a, which needs nothing but memcpy, memmove and memset of the C library.
  */
 #ifndef HEKUDOJA_H
 #define HEKUDOJA_H

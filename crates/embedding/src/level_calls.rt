@@ -49,13 +49,7 @@ fn list_from_sheets(
 
 /// Writes the listing of one level, of the schedule and the profile that two sheets give, into the front of `out`, and counts
 /// its bytes. The schedule sheet is looked at first, then the profile sheet, then whether the level can be drawn, then the room.
-#[unsafe(no_mangle)]
-pub extern "C" fn hekudoja_list_level(
-    schedule: &[u8],
-    level: usize,
-    profile: &[u8],
-    out: &mut [u8],
-) -> Reply
+pub fn hekudoja_list_level(schedule: &[u8], level: usize, profile: &[u8], out: &mut [u8]) -> Reply
     ensures answers { result ≡ reply_to (level_listed (schedule_of schedule.now) level (profile_of profile.now) out.old).0 }
     ensures writes { out.new ≡ (level_listed (schedule_of schedule.now) level (profile_of profile.now) out.old).1 }
 {
@@ -90,8 +84,7 @@ fn draw_from_sheet(
 /// followed by 0 up to the number of heights, and is unchanged from there on. The numerators are counted, and `scale` is what
 /// they are to be divided by; a refusal leaves both as they were. Whatever the heights, no level has more turns, or more crossings
 /// of a whole height, than the one before it.
-#[unsafe(no_mangle)]
-pub extern "C" fn hekudoja_draw(
+pub fn hekudoja_draw(
     schedule: &[u8],
     level: usize,
     heights: &[i64],

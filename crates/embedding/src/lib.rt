@@ -1,5 +1,5 @@
-//! The library for tools in C and Rust: calls on numbers and byte slices, exported under C names. No call asks anything of its
-//! caller beyond its types, allocates, or writes a buffer where it refuses.
+//! The library for tools in C and Rust: calls on numbers and byte slices, which `embedding_c` exports under C names. No call asks
+//! anything of its caller beyond its types, allocates, or writes a buffer where it refuses.
 #![tactic(auto)]
 
 pub mod command_calls;

@@ -20,8 +20,7 @@ fn blame(fault: SheetFault) -> Obstacle
 }
 
 /// Reads a profile sheet into the front of `heights`, and counts its heights.
-#[unsafe(no_mangle)]
-pub extern "C" fn hekudoja_read_profile(sheet: &[u8], heights: &mut [i64]) -> Reply
+pub fn hekudoja_read_profile(sheet: &[u8], heights: &mut [i64]) -> Reply
     ensures answers { result ≡ reply_to (sheet_or_room (answer (profile_of sheet.now) heights.old).0) }
     ensures writes { heights.new ≡ (answer (profile_of sheet.now) heights.old).1 }
     ensures exact { ExactProfile }

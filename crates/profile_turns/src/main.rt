@@ -9,14 +9,14 @@ use std::io;
 use std::io::Read;
 
 /// Reads until the input ends or the buffer is full, so that an endless input comes to an end too.
-fn read_all(rt: &HostRuntime, buffer: &mut [u8]) -> io::Result<usize>
+fn read_all(rt: &impl Input, buffer: &mut [u8]) -> io::Result<usize>
     ensures { IfOk result (λ n. n ≤ length buffer.old) }
 {
-    let mut stdin = rt.stdin();
+    let mut reader = rt.reader();
     let mut size = 0;
     // Each turn reads a byte at least.
     for _ in 0..buffer.len() {
-        let got = stdin.read(&mut buffer[size..])?;
+        let got = reader.read(&mut buffer[size..])?;
         if got == 0 {
             break;
         }
@@ -26,7 +26,7 @@ fn read_all(rt: &HostRuntime, buffer: &mut [u8]) -> io::Result<usize>
 }
 
 /// Prints what the command on bytes answers to what is read.
-fn run(rt: &HostRuntime, input: &mut [u8], out: &mut [u8]) -> io::Result<()>
+fn run(rt: &(impl Input + Print), input: &mut [u8], out: &mut [u8]) -> io::Result<()>
     requires { 1178200 ≤ length out.old }
 {
     let size = read_all(rt, input)?;

@@ -6,7 +6,7 @@ use schedule::history::{Call, replay};
 use schedule::schedules::Schedule;
 
 /// A schedule and its prime table.
-fn table(rt: &HostRuntime, schedule: &Schedule) -> anyhow::Result<()> {
+fn table(rt: &impl Print, schedule: &Schedule) -> anyhow::Result<()> {
     print!(rt; "  ")?;
     show::passes(rt, schedule)?;
     print!(rt; " has the primes")?;
@@ -20,7 +20,7 @@ fn table(rt: &HostRuntime, schedule: &Schedule) -> anyhow::Result<()> {
 }
 
 /// Compares what two histories leave; answers whether they are equal.
-fn verdict(rt: &HostRuntime, first: &[Call], second: &[Call]) -> anyhow::Result<bool> {
+fn verdict(rt: &impl Print, first: &[Call], second: &[Call]) -> anyhow::Result<bool> {
     let x = replay(first);
     let y = replay(second);
     table(rt, &x)?;
@@ -38,7 +38,7 @@ fn verdict(rt: &HostRuntime, first: &[Call], second: &[Call]) -> anyhow::Result<
 }
 
 /// Compares some pairs of schedules; answers how many and how many of them are equal.
-pub fn some_pairs(rt: &HostRuntime) -> anyhow::Result<(usize, usize)> {
+pub fn some_pairs(rt: &impl Print) -> anyhow::Result<(usize, usize)> {
     let verdicts = [
         verdict(
             rt,

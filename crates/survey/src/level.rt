@@ -24,7 +24,7 @@ pub fn draw(heap: Global, schedule: &Schedule, k: usize, profile: &[i64]) -> any
                 scale: drawn.scale,
             })
         }
-        Err(refusal) => Err(unexpected(heap, refusal)),
+        Err(refusal) => Err(unexpected(refusal)),
     }
 }
 

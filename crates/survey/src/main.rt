@@ -18,7 +18,7 @@ const HILL: [i64; 7] = [0, 0, 0, 10, 0, 0, 0];
 const SIGHT_LINE: i64 = 3;
 
 /// What weights that are refused would make of the hill.
-fn bad_pass(rt: &HostRuntime, pass: Pass) -> anyhow::Result<()> {
+fn bad_pass(rt: &(impl Print + AllocGlobal), pass: Pass) -> anyhow::Result<()> {
     println!(rt; "1. Weights {pass}: what they would make of one hill")?;
     let ground = Level {
         numerators: HILL.to_vec(rt.alloc())?,
@@ -35,7 +35,7 @@ fn bad_pass(rt: &HostRuntime, pass: Pass) -> anyhow::Result<()> {
 }
 
 /// Makes the calls one by one, and shows what each answers.
-fn edit(rt: &HostRuntime, calls: &[Call]) -> anyhow::Result<(Schedule, usize)> {
+fn edit(rt: &impl Print, calls: &[Call]) -> anyhow::Result<(Schedule, usize)> {
     println!(rt; "2. A schedule, call by call")?;
     let mut schedule = Schedule::new();
     let mut refused: usize = 0;
@@ -56,7 +56,10 @@ fn edit(rt: &HostRuntime, calls: &[Call]) -> anyhow::Result<(Schedule, usize)> {
 }
 
 /// Draws every level of the schedule, and counts its turns and its crossings of the sight line.
-fn levels(rt: &HostRuntime, schedule: &Schedule) -> anyhow::Result<(usize, usize, usize)> {
+fn levels(
+    rt: &(impl Print + AllocGlobal),
+    schedule: &Schedule,
+) -> anyhow::Result<(usize, usize, usize)> {
     let mut count: usize = 0;
     let mut turns: usize = 0;
     let mut crossings: usize = 0;
@@ -72,7 +75,7 @@ fn levels(rt: &HostRuntime, schedule: &Schedule) -> anyhow::Result<(usize, usize
     Ok((count, turns, crossings))
 }
 
-fn tour(rt: &HostRuntime) -> anyhow::Result<()> {
+fn tour(rt: &(impl Print + AllocGlobal)) -> anyhow::Result<()> {
     bad_pass(rt, Pass::Triple(1, 0, 1))?;
     let calls = [
         Call::AddTriple(1, 0, 1),

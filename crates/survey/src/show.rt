@@ -1,18 +1,18 @@
 //! What the tour prints.
 use crate::level::Level;
+use anyhow::anyhow;
 use samples::refusals::Refusal;
 use samples::{crossings, rounding, turns};
 use scale_space::crossings::{Crossing, Direction};
 use scale_space::turns::{Turn, TurnKind};
 use schedule::history::Call;
 use schedule::schedules::Schedule;
-use std::alloc::Global;
 
 /// Room for what one small profile can hold.
 const PLACES: usize = 16;
 
 /// A line of numbers under a title, without its end.
-pub fn numbers(rt: &HostRuntime, title: &str, values: &[i64]) -> anyhow::Result<()> {
+pub fn numbers(rt: &impl Print, title: &str, values: &[i64]) -> anyhow::Result<()> {
     print!(rt; "  {title}:")?;
     for value in values {
         print!(rt; " {value}")?;
@@ -21,14 +21,14 @@ pub fn numbers(rt: &HostRuntime, title: &str, values: &[i64]) -> anyhow::Result<
 }
 
 /// A level: its numerators, and a picture of it rounded to whole heights.
-pub fn level(rt: &HostRuntime, level: &Level) -> anyhow::Result<()> {
+pub fn level(rt: &impl Print, level: &Level) -> anyhow::Result<()> {
     let scale = level.scale;
     numbers(rt, "numerators", &level.numerators)?;
     println!(rt; " over {scale}")?;
     let mut out = [0; PLACES];
     let count = match rounding::round(&level.numerators, scale, &mut out) {
         Ok(count) => count,
-        Err(refusal) => return Err(unexpected(rt.alloc(), refusal)),
+        Err(refusal) => return Err(unexpected(refusal)),
     };
     let heights = out.get(0..count).unwrap_or(&[]);
     numbers(rt, "rounded", heights)?;
@@ -37,7 +37,7 @@ pub fn level(rt: &HostRuntime, level: &Level) -> anyhow::Result<()> {
 }
 
 /// A bar for each height, as a picture of the ground.
-fn picture(rt: &HostRuntime, heights: &[i64]) -> anyhow::Result<()> {
+fn picture(rt: &impl Print, heights: &[i64]) -> anyhow::Result<()> {
     for (place, height) in heights.iter().enumerate() {
         print!(rt; "  {place:>4} |")?;
         for _ in 0..*height {
@@ -63,16 +63,13 @@ fn direction_name(direction: Direction) -> &'static str {
 }
 
 /// An error that says which refusal the tour did not expect.
-pub fn unexpected(heap: Global, refusal: Refusal) -> anyhow::Error {
+pub fn unexpected(refusal: Refusal) -> anyhow::Error {
     let number = refusal.number();
-    match format!(in heap; "refused with {number}: {refusal}") {
-        Ok(text) => text.into(),
-        Err(error) => error.into(),
-    }
+    anyhow!("refused with {number}: {refusal}")
 }
 
 /// Lists the turns of a level, and answers how many there are.
-pub fn turns_of(rt: &HostRuntime, level: &Level) -> anyhow::Result<usize> {
+pub fn turns_of(rt: &impl Print, level: &Level) -> anyhow::Result<usize> {
     let mut table = [Turn {
         kind: TurnKind::Ridge,
         place: 0,
@@ -80,7 +77,7 @@ pub fn turns_of(rt: &HostRuntime, level: &Level) -> anyhow::Result<usize> {
     }; PLACES];
     let found = match turns::find(&level.numerators, &mut table) {
         Ok(found) => found,
-        Err(refusal) => return Err(unexpected(rt.alloc(), refusal)),
+        Err(refusal) => return Err(unexpected(refusal)),
     };
     let scale = level.scale;
     for turn in table.iter().take(found) {
@@ -93,7 +90,7 @@ pub fn turns_of(rt: &HostRuntime, level: &Level) -> anyhow::Result<usize> {
 }
 
 /// Lists the crossings of a height by a level, and answers how many there are.
-pub fn crossings_of(rt: &HostRuntime, level: &Level, height: i64) -> anyhow::Result<usize> {
+pub fn crossings_of(rt: &impl Print, level: &Level, height: i64) -> anyhow::Result<usize> {
     let mut table = [Crossing {
         from: 0,
         to: 0,
@@ -101,7 +98,7 @@ pub fn crossings_of(rt: &HostRuntime, level: &Level, height: i64) -> anyhow::Res
     }; PLACES];
     let found = match crossings::find(&level.numerators, level.scale, height, &mut table) {
         Ok(found) => found,
-        Err(refusal) => return Err(unexpected(rt.alloc(), refusal)),
+        Err(refusal) => return Err(unexpected(refusal)),
     };
     for crossing in table.iter().take(found) {
         let way = direction_name(crossing.direction);
@@ -113,7 +110,7 @@ pub fn crossings_of(rt: &HostRuntime, level: &Level, height: i64) -> anyhow::Res
 }
 
 /// A call, by its arguments.
-pub fn call(rt: &HostRuntime, call: &Call) -> anyhow::Result<()> {
+pub fn call(rt: &impl Print, call: &Call) -> anyhow::Result<()> {
     match call {
         Call::AddPair(a, b) => print!(rt; "  add pair ({a}, {b}): ")?,
         Call::AddTriple(a, b, c) => print!(rt; "  add triple ({a}, {b}, {c}): ")?,
@@ -125,7 +122,7 @@ pub fn call(rt: &HostRuntime, call: &Call) -> anyhow::Result<()> {
 }
 
 /// The passes that stand in a schedule.
-pub fn passes(rt: &HostRuntime, schedule: &Schedule) -> anyhow::Result<()> {
+pub fn passes(rt: &impl Print, schedule: &Schedule) -> anyhow::Result<()> {
     if schedule.len() == 0 {
         print!(rt; "no pass")?;
     }
@@ -139,7 +136,7 @@ pub fn passes(rt: &HostRuntime, schedule: &Schedule) -> anyhow::Result<()> {
 }
 
 /// The passes that stand, and their scale.
-pub fn schedule(rt: &HostRuntime, schedule: &Schedule) -> anyhow::Result<()> {
+pub fn schedule(rt: &impl Print, schedule: &Schedule) -> anyhow::Result<()> {
     print!(rt; "  schedule: ")?;
     passes(rt, schedule)?;
     let scale = schedule.scale();

@@ -11,7 +11,7 @@ use smoother::pile::Pile;
 
 /// Applies a smoother to the profile and shows what comes out; answers how many numbers.
 fn shown<S: Smoother>(
-    rt: &HostRuntime,
+    rt: &impl Print,
     name: &str,
     smoother: &S,
     profile: &[i64],
@@ -25,52 +25,52 @@ fn shown<S: Smoother>(
             println!(rt; " over {scale}, reach {reach}")?;
             Ok(count)
         }
-        Err(refusal) => Err(unexpected(rt.alloc(), refusal)),
+        Err(refusal) => Err(unexpected(refusal)),
     }
 }
 
 /// A refusal as an error of the tour, for `?`.
-fn taken<T>(rt: &HostRuntime, made: Result<T, Refusal>) -> anyhow::Result<T> {
+fn taken<T>(made: Result<T, Refusal>) -> anyhow::Result<T> {
     match made {
         Ok(value) => Ok(value),
-        Err(refusal) => Err(unexpected(rt.alloc(), refusal)),
+        Err(refusal) => Err(unexpected(refusal)),
     }
 }
 
-fn passes(rt: &HostRuntime, profile: &[i64]) -> anyhow::Result<usize> {
-    let first = shown(rt, "pair (1, 1)", &taken(rt, Pair::new(1, 1))?, profile)?;
+fn passes(rt: &impl Print, profile: &[i64]) -> anyhow::Result<usize> {
+    let first = shown(rt, "pair (1, 1)", &taken(Pair::new(1, 1))?, profile)?;
     let second = shown(
         rt,
         "triple (1, 2, 1)",
-        &taken(rt, Triple::new(1, 2, 1))?,
+        &taken(Triple::new(1, 2, 1))?,
         profile,
     )?;
     Ok(first.saturating_add(second))
 }
 
-fn binomials(rt: &HostRuntime, profile: &[i64]) -> anyhow::Result<usize> {
+fn binomials(rt: &impl Print, profile: &[i64]) -> anyhow::Result<usize> {
     let four = replay(&[Call::AddPair(1, 1); 4]);
     let first = shown(rt, "schedule of (1, 1) four times", &four, profile)?;
     let second = shown(
         rt,
         "binomial of order 4",
-        &taken(rt, Binomial::new(4))?,
+        &taken(Binomial::new(4))?,
         profile,
     )?;
     Ok(first.saturating_add(second))
 }
 
-fn piles(rt: &HostRuntime, profile: &[i64]) -> anyhow::Result<usize> {
+fn piles(rt: &impl Print, profile: &[i64]) -> anyhow::Result<usize> {
     let two = replay(&[Call::AddPair(1, 1); 2]);
-    let near = taken(rt, Pile::new(two, taken(rt, Binomial::new(1))?))?;
+    let near = taken(Pile::new(two, taken(Binomial::new(1))?))?;
     let first = shown(rt, "pile of a schedule and a binomial", &near, profile)?;
-    let far = taken(rt, Pile::new(near, taken(rt, Pair::new(1, 1))?))?;
+    let far = taken(Pile::new(near, taken(Pair::new(1, 1))?))?;
     let second = shown(rt, "pile of that pile and a pair", &far, profile)?;
     Ok(first.saturating_add(second))
 }
 
 /// Shows all five kinds; answers how many windows were weighed.
-pub fn all_kinds(rt: &HostRuntime, profile: &[i64]) -> anyhow::Result<usize> {
+pub fn all_kinds(rt: &impl Print, profile: &[i64]) -> anyhow::Result<usize> {
     let mut windows = passes(rt, profile)?;
     windows = windows.saturating_add(binomials(rt, profile)?);
     windows = windows.saturating_add(piles(rt, profile)?);

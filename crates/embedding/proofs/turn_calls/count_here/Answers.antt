@@ -1,5 +1,5 @@
 -- The table has a place for each sample, so all turns are found.
-use Rattle.std.proofs.Common.{◌≤◌, length, arith, rules}
+use Rattle.std.proofs.Common.{◌≤◌, length, rules}
 use Rattle.listing.proofs.Finding.{found_never}
 use Rattle.embedding.proofs.turn_calls.count_here.Goals as goal
 
