@@ -44,8 +44,8 @@ profile_read (Ok hs) old now n e f = ⊎_elim short long (cases_lt (length old) 
     long l =
         let g : ◌≡◌ {A = Result ℕ SheetFault} (Ok n) (Ok (length hs)) = e ∙ (λ j. (fits hs old l j).0) in
         let same : n ≡ length hs = cc in
-        let now-is : now ≡ hs ++ drop (length hs) old = f ∙ (λ j. (fits hs old l j).1) in
-        ap Ok (sym (ap₂ take (sub-zero n) now-is ∙ take_at hs (drop (length hs) old) n (sym same)))
+        let now_is : now ≡ hs ++ drop (length hs) old = f ∙ (λ j. (fits hs old l j).1) in
+        ap Ok (sym (ap₂ take (sub-zero n) now_is ∙ take_at hs (drop (length hs) old) n (sym same)))
 
 -- one that was not, where the buffer has room for any
 pub profile_refused : (p : Result (List ℤ) SheetFault) (old : List ℤ) (x : SheetFault) → ((hs : List ℤ) → p ≡ Ok hs → length hs ≤ length old) → Err x ≡ (answer p old).0 → p ≡ Err x

@@ -14,7 +14,7 @@ use crate::second::writing::write_text;
 use crate::tally::Tally;
 use levels::walks::Walk;
 use listing::listings::{ListingFault, list, list_level};
-use samples::rounding::nearest;
+use samples::rounding::round_one;
 use std::alloc::Global;
 
 const ROUNDS: u32 = 250;
@@ -104,7 +104,7 @@ pub fn run_nearest() -> Tally {
     for _ in 0..NUMERATORS {
         let scale = scale(&mut generator);
         let numerator = numerator(&mut generator, scale, 6);
-        let library = match nearest(numerator, scale) {
+        let library = match round_one(numerator, scale) {
             Ok(height) => Ok(height),
             Err(refusal) => Err(fault_of(refusal)),
         };

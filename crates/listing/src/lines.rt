@@ -7,7 +7,7 @@ ghost use Rattle.listing.specs.Listing.{kind_word, turn_line, names, listing, he
 ghost use Rattle.listing.specs.Putting.{Roomy, Put};
 
 use crate::fields::{put_number, put_signed, put_word, signed_width, width};
-use samples::rounding::nearest;
+use samples::rounding::round_one;
 use samples::turns::find;
 use scale_space::turns::{Turn, TurnKind};
 use sheets::faults::SheetFault;
@@ -86,7 +86,7 @@ fn round_turns(turns: &mut [Turn], scale: u64)
     ensures { turns.new ≡ map (turn_rounded scale) turns.old }
 {
     for turn in turns.iter_mut() {
-        let Ok(height) = nearest(turn.numerator, scale) else {
+        let Ok(height) = round_one(turn.numerator, scale) else {
             return unreachable();
         };
         turn.numerator = height;

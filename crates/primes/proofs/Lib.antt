@@ -4,3 +4,4 @@ pub mod Moves
 pub mod Standing
 pub mod Taking
 pub mod Verdict
+pub mod Records

@@ -23,7 +23,7 @@ fn fits(numerators: &[i64], scale: u64) -> bool
 
 /// The whole height nearest to a numerator over the scale; a half goes upward, so the quotient is the one toward the
 /// lower number at both signs.
-fn quotient(numerator: i64, scale: u64) -> i64
+fn nearest(numerator: i64, scale: u64) -> i64
     requires lawful { scale_lawful scale ≡ true }
     requires small { unsigned_abs numerator ≤ 100000 * scale }
     ensures { result ≡ rounded scale numerator }
@@ -33,7 +33,7 @@ fn quotient(numerator: i64, scale: u64) -> i64
 }
 
 /// Rounds one numerator over the scale to the nearest whole height, halves upward.
-pub fn nearest(numerator: i64, scale: u64) -> Result<i64, Refusal>
+pub fn round_one(numerator: i64, scale: u64) -> Result<i64, Refusal>
     ensures { result ≡ rounding_one numerator scale }
 {
     if !is_scale(scale) {
@@ -42,7 +42,7 @@ pub fn nearest(numerator: i64, scale: u64) -> Result<i64, Refusal>
     if numerator.unsigned_abs() > LARGEST_HEIGHT * scale {
         return Err(Refusal::SampleTooLarge);
     }
-    Ok(quotient(numerator, scale))
+    Ok(nearest(numerator, scale))
 }
 
 /// `round`, less the law that it carries.
@@ -60,7 +60,7 @@ fn round_all(numerators: &[i64], scale: u64, out: &mut [i64]) -> Result<usize, R
         return Err(Refusal::SampleTooLarge);
     }
     for (i, numerator) in numerators.iter().enumerate() {
-        out[i] = quotient(*numerator, scale);
+        out[i] = nearest(*numerator, scale);
     }
     Ok(numerators.len())
 }

@@ -1,4 +1,4 @@
--- Each height is in range, so no-turn is refused.
+-- Each height is in range, so no turn is refused.
 use Rattle.std.proofs.Common.{get_or, w64, SFits, rules}
 use Rattle.std.proofs.lemmas.Int.{to_z-of_z}
 use Rattle.listing.proofs.RoundedTurns.{no_turn, round_never, round_more, round_all}

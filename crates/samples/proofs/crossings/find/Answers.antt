@@ -14,10 +14,10 @@ overflow_mul-finder c =
 pub returns : goal.returns
 returns c =
     let f = c.ranges.height in
-    let scale-is = sym c.if-not-is_scale.ensures in
+    let scale_is = sym c.if-not-is_scale.ensures in
     let height_is = sym (simp to_z-of_z at c.if-not-is_height.ensures) in
-    let all = crossings_all _ _ c.args.samples.now (height_read c.args.height c.args.scale f scale-is height_is) in
+    let all = crossings_all _ _ c.args.samples.now (height_read c.args.height c.args.scale f scale_is height_is) in
     record {
-      answer = crossed_all c.args.samples.now c.args.scale c.args.height _ _ _ scale-is height_is all c.list.ensures.answer;
+      answer = crossed_all c.args.samples.now c.args.scale c.args.height _ _ _ scale_is height_is all c.list.ensures.answer;
       places = written_as _ _ c.args.table.now _ c.list.result all c.list.ensures.places;
     }

@@ -7,8 +7,8 @@ use Rattle.samples.proofs.Heights.{fit_at, rounding_all}
 use Rattle.samples.proofs.Writing.{put_more, put_all}
 use Rattle.samples.proofs.rounding.round_all.Goals as goal
 
-pub quotient-requires : goal.quotient-requires
-quotient-requires c =
+pub nearest-requires : goal.nearest-requires
+nearest-requires c =
     let f : SFits w64 (get_or c.args.numerators.now c.loop-i.i (pos 0)) = search rules in
     record {
       lawful = sym c.if-not-is_scale.ensures;
@@ -20,9 +20,9 @@ loop-i-preserved c =
     let xs = c.args.numerators.now in
     let i = c.loop-i.i in
     let f : SFits w64 (get_or xs i (pos 0)) = search rules in
-    let h : SFits w64 c.quotient.result = search rules in
+    let h : SFits w64 c.nearest.result = search rules in
     let left = map (rounded c.args.scale) (drop (i + 1) xs) in
-    let here : c.quotient.result ≡ rounded c.args.scale (get_or xs i (pos 0)) = simp to_z-of_z at c.quotient.ensures in
+    let here : c.nearest.result ≡ rounded c.args.scale (get_or xs i (pos 0)) = simp to_z-of_z at c.nearest.ensures in
     simp to_z-of_z (put_more _ _ _ _ _ _ left c.loop-i.invariant (at_drop_more (map (rounded c.args.scale)) xs i (pos 0) c.loop-i-test.true ∙ ap (λ (x : ℤ). x ∷ left) (sym here)) (omega arith))
 
 pub returns : goal.returns
