@@ -27,9 +27,9 @@ above_is n s f l h = omega (arith, ints)
 under_is : (s : ℕ) → s ≤ 2 ^ 40 → to_z w64 (of_z w64 (pos 2 *ℤ to_z w64 s)) ≡ pos (2 * s)
 under_is s l = omega (arith, ints)
 
-pub quotient_is : (n : ℤ) (s : ℕ) (r : ℤ) → SFits w64 n → SFits w64 r → scale_lawful s ≡ true → nat_abs n ≤ 100000 * s → r ≡ int_div_euclid (to_z w64 (of_z w64 (to_z w64 (of_z w64 (pos 2 *ℤ to_z w64 (of_z w64 n))) +ℤ to_z w64 s))) (to_z w64 (of_z w64 (pos 2 *ℤ to_z w64 s))) → to_z w64 (of_z w64 r) ≡ rounded s n
+pub nearest_is : (n : ℤ) (s : ℕ) (r : ℤ) → SFits w64 n → SFits w64 r → scale_lawful s ≡ true → nat_abs n ≤ 100000 * s → r ≡ int_div_euclid (to_z w64 (of_z w64 (to_z w64 (of_z w64 (pos 2 *ℤ to_z w64 (of_z w64 n))) +ℤ to_z w64 s))) (to_z w64 (of_z w64 (pos 2 *ℤ to_z w64 s))) → to_z w64 (of_z w64 r) ≡ rounded s n
 unfolding rounded
-quotient_is n s r f g e h d = to_z-of_z w64 r g ∙ d ∙ ap₂ int_div_euclid (above_is n s f (scale_most s e) h) (under_is s (scale_most s e))
+nearest_is n s r f g e h d = to_z-of_z w64 r g ∙ d ∙ ap₂ int_div_euclid (above_is n s f (scale_most s e) h) (under_is s (scale_most s e))
 
 pub rounding_all : (xs : List ℤ) (s room : ℕ) → scale_lawful s ≡ true → length xs ≤ room → heights_fit s xs ≡ true → Ok (length xs) ≡ rounding xs s room
 rounding_all xs s room e l h = sym (cond-true (scale_lawful s) _ _ e ∙ cond-true _ _ _ (le-leb (length xs) room l) ∙ cond-true (heights_fit s xs) _ _ h)

@@ -13,6 +13,14 @@ use Rattle.samples.specs.Answers.{height_lawful}
 use Rattle.sheets.proofs.Basics.{clash, is_some}
 use Rattle.sheets.proofs.Numerals.{Free, free_digits, cut_last, glue, glue_cut}
 
+pub pair_two : (l s r : List ℕ) → cut 44 l ≡ s ∷ cut 44 r → cut 44 r ≡ r ∷ [] → station_height (cut 44 l) ≡ both (natural s) (integer r)
+pair_two l s r e f = ap station_height (e ∙ ap (λ q. s ∷ q) f)
+
+pub pair_more : (l s r a b : List ℕ) → cut 44 l ≡ s ∷ cut 44 r → cut 44 r ≡ a ∷ cut 44 b → station_height (cut 44 l) ≡ None
+pair_more l s r a b e f =
+    let g = cut_some 44 b in
+    ap station_height (e ∙ ap (λ q. s ∷ q) (f ∙ ap (λ q. a ∷ q) g.2))
+
 -- no comma stands in a height
 height_free : (r : List ℕ) (h : ℤ) → integer r ≡ Some h → Free 44 r
 height_free [] h e = clash cc
