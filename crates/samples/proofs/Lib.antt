@@ -1,6 +1,5 @@
 -- The lemmas of this crate.
 mod Crossing
-mod Heights
 mod Reading
 mod Sizes
 mod Turning
