@@ -3,4 +3,5 @@ mod Crossing
 mod Reading
 mod Sizes
 mod Turning
+pub mod Within
 mod Writing
