@@ -1,5 +1,5 @@
 -- Items put into a buffer one by one: what is written, and what is left to write.
-use Rattle.std.proofs.Common.{◌≡◌, ℕ, ◌+◌, ◌<◌, ◌≤◌, List, [], ◌∷◌, ◌++◌, length, get_or, take, drop, set, Result, sym, refl, ap, ◌∙◌, add-zero, arith}
+use Rattle.std.proofs.Common.{◌≡◌, ℕ, ◌+◌, ◌<◌, ◌≤◌, List, [], ◌∷◌, ◌++◌, length, get_or, take, drop, set, Result, sym, ap, ◌∙◌, add-zero, arith}
 use Rattle.std.proofs.lemmas.List.{append-nil, append_assoc, length-drop, length-take-le, take-append-drop, take_more, drop_more, drop-drop, get_or-drop, set_at}
 use Rattle.samples.specs.declared.refusals.Refusal.{Refusal}
 use Rattle.samples.specs.Answers.{listed, written}
@@ -9,9 +9,6 @@ pub record Put {A : Type 0} (all old : List A) (n : ℕ) (buffer left : List A) 
   pub some : n ≤ length all
   pub front : n ≤ length old → buffer ≡ take n all ++ drop n old
   pub rest : drop n all ≡ left
-
-pub put_none : {A : Type 0} (all old : List A) → Put all old 0 old all
-put_none all old = record { some = omega arith; front = λ l. refl; rest = refl }
 
 pub put_same : {A : Type 0} (all old : List A) (n : ℕ) (buffer left more : List A) → Put all old n buffer left → left ≡ more → Put all old n buffer more
 put_same all old n buffer left more p e = record { some = p.some; front = p.front; rest = p.rest ∙ e }

@@ -1,12 +1,9 @@
 -- Each record that is read is the next of all.
 use Rattle.std.proofs.Common.{◌+◌, get_or, pos, arith, w64, SFits, rules}
 use Rattle.samples.proofs.Reading.{read_some, read_none, read_out}
-use Rattle.samples.proofs.Writing.{put_none, put_same, put_more, put_count, put_all}
+use Rattle.samples.proofs.Writing.{put_same, put_more, put_count, put_all}
 use Rattle.samples.proofs.finder.fill.Goals as goal
 use Rattle.samples.proofs.finder.fill.Goals.{in-Some, in_default}
-
-pub loop-i-init : goal.loop-i-init
-loop-i-init g c = record { few = omega arith; put = put_none _ _ }
 
 pub loop-i-preserved : goal.loop-i-preserved
 loop-i-preserved g c =
