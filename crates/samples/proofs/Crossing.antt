@@ -1,21 +1,22 @@
 -- What the finder of crossings still has to give, one sample on.
-use Rattle.std.proofs.Common.{◌≡◌, ℕ, suc, ◌+◌, true, ◌&&◌, List, [], ◌∷◌, ℤ, pos, ◌*ℤ◌, ◌<ℤ◌, Result, sym, refl, ap, ◌∙◌, add-one}
-use Rattle.std.proofs.lemmas.Bool.{and_from, cond-true}
+use Rattle.std.proofs.Common.{◌≡◌, ℕ, suc, ◌+◌, true, false, ◌&&◌, List, [], ◌∷◌, ℤ, pos, ◌*ℤ◌, Some, None, Option, Result, sym, refl, ap, ◌∙◌, add-one}
+use Rattle.std.proofs.lemmas.Bool.{and_from, cond-true, true≢false}
+use Rattle.std.proofs.lemmas.Cmp.{int_ranked}
+use Rattle.std.specs.Ordering.{is_eq, int_cmp}
+use Rattle.std.specs.declared.cmp.Ordering.{Ordering}
+use Rattle.std.specs.declared.cmp.Ordering.TheVariants.{Less, Equal, Greater}
 use Rattle.scale_space.specs.declared.crossings.Crossing.{Crossing}
-use Rattle.scale_space.specs.declared.crossings.Direction.TheVariants.{Up, Down}
 use Rattle.scale_space.specs.Signs.{Sign, below, level, above, side, keep}
 use Rattle.scale_space.specs.Turns.{Spot, spot}
 use Rattle.scale_space.specs.Crossings.{away, crossing, crossings_of, crossings}
 use Rattle.samples.specs.declared.crossings.CrossingFinder.{CrossingFinder}
-use Rattle.samples.specs.declared.crossings.Seen.{Seen}
-use Rattle.samples.specs.declared.crossings.Seen.TheVariants.{Nothing, Below, Above}
 use Rattle.samples.specs.declared.refusals.Refusal.{Refusal}
 use Rattle.samples.specs.Answers.{scale_lawful, height_lawful, listed, crossed}
-use Rattle.samples.specs.Finders.{seen_side, seen_place, crossings_from, crossings_ahead}
+use Rattle.samples.specs.Finders.{sign_of, seen_side, seen_place, crossings_from, crossings_ahead}
 use Rattle.scale_space.proofs.Sides.{under_side, level_side, over_side}
 use Rattle.samples.proofs.Writing.{listed_as}
 
-abbrev pub crossing_finder : ℤ → Seen → CrossingFinder
+abbrev pub crossing_finder : ℤ → Option (Ordering × ℕ) → CrossingFinder
 crossing_finder h s = record { height = h; seen = s }
 
 -- only the place of the sample that was left counts
@@ -40,7 +41,7 @@ none_away h f [] = refl
 none_away h f (g ∷ gs) = refl
 
 -- a sample at the height
-pub crossings_level : (h : ℤ) (s : Seen) (n : ℕ) (x : ℤ) (rest : List ℤ) → x ≡ h → crossings_ahead (crossing_finder h s) n (x ∷ rest) ≡ crossings_ahead (crossing_finder h s) (n + 1) rest
+pub crossings_level : (h : ℤ) (s : Option (Ordering × ℕ)) (n : ℕ) (x : ℤ) (rest : List ℤ) → x ≡ h → crossings_ahead (crossing_finder h s) n (x ∷ rest) ≡ crossings_ahead (crossing_finder h s) (n + 1) rest
 unfolding crossings_ahead away
 crossings_level h s n x rest e =
     ap (λ t. crossings_from h (seen_side s) (spot (seen_place s) h) (keep t (spot n x) (away h (suc n) rest))) (level_side x h e)
@@ -57,37 +58,16 @@ off_height h s t p n x rest e k =
     ∙ ap (crossing s t (spot p h) (spot n x)) (one_away h n x gs ∙ ap (λ u. crossings_from h u (spot n h) gs) e)
     ∙ ap (λ m. crossing s t (spot p h) (spot n x) (crossings_from h t (spot n h) (away h m rest))) (sym (add-one n))
 
-higher : (h : ℤ) (s : Seen) (n : ℕ) (x : ℤ) (rest : List ℤ) → h <ℤ x → crossings_ahead (crossing_finder h s) n (x ∷ rest) ≡ crossing (seen_side s) above (spot (seen_place s) h) (spot n x) (crossings_ahead (crossing_finder h (Above n)) (n + 1) rest)
+pub crossings_on : (h : ℤ) (s : Option (Ordering × ℕ)) (o : Ordering) (n : ℕ) (x : ℤ) (rest : List ℤ) → o ≡ int_cmp x h → is_eq o ≡ false → crossings_ahead (crossing_finder h s) n (x ∷ rest) ≡ crossing (seen_side s) (sign_of o) (spot (seen_place s) h) (spot n x) (crossings_ahead (crossing_finder h (Some (o, n))) (n + 1) rest)
 unfolding crossings_ahead
-higher h s n x rest l = off_height h (seen_side s) above (seen_place s) n x rest (over_side x h l) (λ gs. refl)
-
-lower : (h : ℤ) (s : Seen) (n : ℕ) (x : ℤ) (rest : List ℤ) → x <ℤ h → crossings_ahead (crossing_finder h s) n (x ∷ rest) ≡ crossing (seen_side s) below (spot (seen_place s) h) (spot n x) (crossings_ahead (crossing_finder h (Below n)) (n + 1) rest)
-unfolding crossings_ahead
-lower h s n x rest l = off_height h (seen_side s) below (seen_place s) n x rest (under_side x h l) (λ gs. refl)
-
--- the four ways to a sample off the height
-pub above_on : (h : ℤ) (s : Seen) (n : ℕ) (x : ℤ) (rest : List ℤ) → h <ℤ x → ((p : ℕ) → s ≡ Below p → ⊥) → crossings_ahead (crossing_finder h s) n (x ∷ rest) ≡ crossings_ahead (crossing_finder h (Above n)) (n + 1) rest
-above_on h Nothing n x rest l other = higher h Nothing n x rest l
-above_on h (Below p) n x rest l other = absurd (other p refl)
-above_on h (Above p) n x rest l other = higher h (Above p) n x rest l
-
-pub below_on : (h : ℤ) (s : Seen) (n : ℕ) (x : ℤ) (rest : List ℤ) → x <ℤ h → ((p : ℕ) → s ≡ Above p → ⊥) → crossings_ahead (crossing_finder h s) n (x ∷ rest) ≡ crossings_ahead (crossing_finder h (Below n)) (n + 1) rest
-below_on h Nothing n x rest l other = lower h Nothing n x rest l
-below_on h (Below p) n x rest l other = lower h (Below p) n x rest l
-below_on h (Above p) n x rest l other = absurd (other p refl)
-
-pub crosses_up : (h : ℤ) (s : Seen) (p n : ℕ) (x : ℤ) (rest : List ℤ) → h <ℤ x → s ≡ Below p → crossings_ahead (crossing_finder h s) n (x ∷ rest) ≡ record { from = p; to = n; direction = Up } ∷ crossings_ahead (crossing_finder h (Above n)) (n + 1) rest
-crosses_up h s p n x rest l e =
-    ap (λ r. crossings_ahead (crossing_finder h r) n (x ∷ rest)) e ∙ higher h (Below p) n x rest l
-
-pub crosses_down : (h : ℤ) (s : Seen) (p n : ℕ) (x : ℤ) (rest : List ℤ) → x <ℤ h → s ≡ Above p → crossings_ahead (crossing_finder h s) n (x ∷ rest) ≡ record { from = p; to = n; direction = Down } ∷ crossings_ahead (crossing_finder h (Below n)) (n + 1) rest
-crosses_down h s p n x rest l e =
-    ap (λ r. crossings_ahead (crossing_finder h r) n (x ∷ rest)) e ∙ lower h (Above p) n x rest l
+crossings_on h s Less n x rest e other = off_height h (seen_side s) below (seen_place s) n x rest (under_side x h (int_ranked x h Less e)) (λ gs. refl)
+crossings_on h s Equal n x rest e other = absurd (true≢false other)
+crossings_on h s Greater n x rest e other = off_height h (seen_side s) above (seen_place s) n x rest (over_side x h (int_ranked x h Greater e)) (λ gs. refl)
 
 -- with nothing seen it finds all
-pub crossings_all : (k h : ℤ) (xs : List ℤ) → k ≡ h → crossings_ahead (crossing_finder k Nothing) 0 xs ≡ crossings h xs
+pub crossings_all : (k h : ℤ) (xs : List ℤ) → k ≡ h → crossings_ahead (crossing_finder k None) 0 xs ≡ crossings h xs
 unfolding crossings crossings_ahead
-crossings_all k h xs e = ap (λ j. crossings_ahead (crossing_finder j Nothing) 0 xs) e ∙ sym (none_away h (spot 0 h) (away h 0 xs))
+crossings_all k h xs e = ap (λ j. crossings_ahead (crossing_finder j None) 0 xs) e ∙ sym (none_away h (spot 0 h) (away h 0 xs))
 
 pub crossed_all : (xs : List ℤ) (s : ℕ) (c : ℤ) (found : List Crossing) (room : ℕ) (r : Result ℕ Refusal) → scale_lawful s ≡ true → height_lawful c ≡ true → found ≡ crossings (c *ℤ pos s) xs → r ≡ listed found room → r ≡ crossed xs s c room
 crossed_all xs s c found room r e h all l = listed_as found (crossings (c *ℤ pos s) xs) room r all l ∙ sym (cond-true (scale_lawful s && height_lawful c) _ _ (and_from _ _ e h))

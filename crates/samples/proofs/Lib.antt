@@ -1,7 +1,7 @@
 -- The lemmas of this crate.
 mod Crossing
-mod Heights
 mod Reading
 mod Sizes
 mod Turning
+pub mod Within
 mod Writing

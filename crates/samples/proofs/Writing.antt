@@ -1,26 +1,17 @@
 -- Items put into a buffer one by one: what is written, and what is left to write.
-use Rattle.std.proofs.Common.{◌≡◌, ℕ, ◌+◌, ◌<◌, ◌≤◌, List, [], ◌∷◌, ◌++◌, length, get_or, take, drop, set, Ok, Err, Result, sym, refl, ap, ◌∙◌, add-zero, arith}
+use Rattle.std.proofs.Common.{◌≡◌, ℕ, ◌+◌, ◌<◌, ◌≤◌, List, [], ◌∷◌, ◌++◌, length, get_or, take, drop, set, Result, sym, ap, ◌∙◌, add-zero, arith}
 use Rattle.std.proofs.lemmas.List.{append-nil, append_assoc, length-drop, length-take-le, take-append-drop, take_more, drop_more, drop-drop, get_or-drop, set_at}
-use Rattle.std.proofs.lemmas.Bool.{le-leb, cond-true}
 use Rattle.samples.specs.declared.refusals.Refusal.{Refusal}
-use Rattle.samples.specs.declared.refusals.Refusal.TheVariants.{TableTooShort}
 use Rattle.samples.specs.Answers.{listed, written}
 
--- the first n of all items stand in the buffer, which was old, and the others are left
+-- the first n of all items stand in the buffer, which was old, if they have room there, and the others are left
 pub record Put {A : Type 0} (all old : List A) (n : ℕ) (buffer left : List A) : Type 0 where
   pub some : n ≤ length all
-  pub front : buffer ≡ take n all ++ drop n old
+  pub front : n ≤ length old → buffer ≡ take n all ++ drop n old
   pub rest : drop n all ≡ left
-
-pub put_none : {A : Type 0} (all old : List A) → Put all old 0 old all
-put_none all old = record { some = omega arith; front = refl; rest = refl }
 
 pub put_same : {A : Type 0} (all old : List A) (n : ℕ) (buffer left more : List A) → Put all old n buffer left → left ≡ more → Put all old n buffer more
 put_same all old n buffer left more p e = record { some = p.some; front = p.front; rest = p.rest ∙ e }
-
--- an item is left, so there is room for it
-pub put_room : {A : Type 0} (all old : List A) (n : ℕ) (buffer left : List A) (x : A) (more : List A) → Put all old n buffer left → left ≡ x ∷ more → n < length all
-put_room all old n buffer left x more p e = omega (arith, length-drop n all, ap length (p.rest ∙ e))
 
 next_is : {A : Type 0} (all : List A) (n : ℕ) (x : A) (rest : List A) → drop n all ≡ x ∷ rest → get_or all n x ≡ x
 next_is all n x rest e = ap (λ k. get_or all k x) (sym (add-zero n)) ∙ sym (get_or-drop n all 0 x) ∙ ap (λ l. get_or l 0 x) e
@@ -31,12 +22,13 @@ front_more all old n x l m e =
     ∙ set_at (take n all) (get_or old n x) (drop (n + 1) old) x n (length-take-le n all (omega arith))
     ∙ sym (ap (λ ys. ys ++ drop (n + 1) old) (take_more all n x l ∙ ap (λ y. take n all ++ y ∷ []) e) ∙ append_assoc (take n all) (x ∷ []) (drop (n + 1) old))
 
-pub put_more : {A : Type 0} (all old : List A) (n : ℕ) (buffer left : List A) (x : A) (more : List A) → Put all old n buffer left → left ≡ x ∷ more → n < length old → Put all old (n + 1) (set buffer n x) more
-put_more all old n buffer left x more p e l =
-    let m = put_room all old n buffer left x more p e in
+-- one more item is put, if it has room
+pub put_more : {A : Type 0} (all old : List A) (n : ℕ) (buffer left : List A) (x : A) (more : List A) → Put all old n buffer left → left ≡ x ∷ more → Put all old (n + 1) (set buffer n x) more
+put_more all old n buffer left x more p e =
+    let m : n < length all = omega (arith, length-drop n all, ap length (p.rest ∙ e)) in
     record {
       some = omega arith;
-      front = ap (λ b. set b n x) p.front ∙ front_more all old n x m l (next_is all n x more (p.rest ∙ e));
+      front = λ l. ap (λ b. set b n x) (p.front (omega arith)) ∙ front_more all old n x m (omega arith) (next_is all n x more (p.rest ∙ e));
       rest = sym (drop-drop 1 n all) ∙ ap (drop 1) (p.rest ∙ e);
     }
 
@@ -44,18 +36,13 @@ put_more all old n buffer left x more p e l =
 pub put_count : {A : Type 0} (all old : List A) (n : ℕ) (buffer left : List A) → Put all old n buffer left → left ≡ [] → n ≡ length all
 put_count all old n buffer left p e = omega (arith, p.some, length-drop n all, ap length (p.rest ∙ e))
 
--- and k is how many there are
-pub put_all : {A : Type 0} (all old : List A) (n : ℕ) (buffer left : List A) (k : ℕ) → Put all old n buffer left → left ≡ [] → k ≡ length all → buffer ≡ all ++ drop k old
-put_all all old n buffer left k p e l =
-    let full : n ≡ k = put_count all old n buffer left p e ∙ sym l in
+pub put_all : {A : Type 0} (all old : List A) (n : ℕ) (buffer left : List A) → Put all old n buffer left → left ≡ [] → n ≤ length old → buffer ≡ all ++ drop n old
+put_all all old n buffer left p e l =
     let none : drop n all ≡ [] = p.rest ∙ e in
     let whole : take n all ≡ all = sym (append-nil (take n all)) ∙ ap (λ ys. take n all ++ ys) (sym none) ∙ take-append-drop n all in
-    p.front ∙ ap (λ ys. ys ++ drop n old) whole ∙ ap (λ m. all ++ drop m old) full
+    p.front l ∙ ap (λ ys. ys ++ drop n old) whole
 
 -- ---- what a call answers and leaves, where it found all
-pub listed_all : {A : Type 0} (all : List A) (room k : ℕ) → k ≡ length all → k ≤ room → Ok k ≡ listed all room
-listed_all all room k e l = ap Ok e ∙ sym (cond-true _ (Ok (length all)) (Err TableTooShort) (le-leb (length all) room (omega arith)))
-
 pub listed_as : {A : Type 0} (found all : List A) (room : ℕ) (r : Result ℕ Refusal) → found ≡ all → r ≡ listed found room → r ≡ listed all room
 listed_as found all room r e l = l ∙ ap (λ xs. listed xs room) e
 

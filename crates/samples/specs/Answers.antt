@@ -1,5 +1,6 @@
 -- What the calls on samples answer, and what the caller's buffers hold afterwards.
-use Rattle.std.specs.Prelude.{ℕ, ◌*◌, ◌^◌, Bool, true, cond, ◌&&◌, List, [], ◌∷◌, ◌++◌, length, drop, ℤ, pos, ◌*ℤ◌, Ok, Err, Result, nat_le, unsigned_abs}
+use Rattle.std.specs.Prelude.{ℕ, ◌*◌, ◌^◌, Bool, cond, ◌&&◌, List, ◌++◌, length, drop, ℤ, pos, ◌*ℤ◌, Ok, Err, Result, nat_le, unsigned_abs}
+use Rattle.std.specs.List.{list_all}
 use Rattle.samples.specs.declared.refusals.Refusal.{Refusal}
 use Rattle.samples.specs.declared.refusals.Refusal.TheVariants.{BufferTooShort, SampleTooLarge, TableTooShort, ScaleOrHeight}
 use Rattle.scale_space.specs.Crossings.{crossings}
@@ -24,10 +25,13 @@ height_lawful c = nat_le (unsigned_abs c) 100000
 abbrev pub crossed : List ℤ → ℕ → ℤ → ℕ → Result ℕ Refusal
 crossed xs s c room = cond (scale_lawful s && height_lawful c) (listed (crossings (c *ℤ pos s) xs) room) (Err ScaleOrHeight)
 
+-- each of the numbers is at most as large as the limit, above and below 0
+abbrev pub all_within : ℕ → List ℤ → Bool
+all_within limit xs = list_all (λ x. nat_le (unsigned_abs x) limit) xs
+
 -- no numerator is larger than the largest height at the scale s
 abbrev pub heights_fit : ℕ → List ℤ → Bool
-heights_fit s [] = true
-heights_fit s (x ∷ xs) = nat_le (unsigned_abs x) (100000 * s) && heights_fit s xs
+heights_fit s xs = all_within (100000 * s) xs
 
 -- numerators over the scale s, rounded into an output of `room` places
 abbrev pub rounding : List ℤ → ℕ → ℕ → Result ℕ Refusal

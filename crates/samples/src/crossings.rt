@@ -1,9 +1,10 @@
 //! The crossings of a height.
-ghost use Rattle.std.specs.Prelude.{◌≡◌, length, pos, ◌*ℤ◌};
+ghost use Rattle.std.specs.Prelude.{◌≡◌, List, length, ℤ, pos, ◌*ℤ◌};
 ghost use Rattle.std.proofs.Math.Path.{refl};
-ghost use Rattle.scale_space.specs.Crossings.{crossings, away};
+ghost use Rattle.scale_space.specs.Turns.{spot};
+ghost use Rattle.scale_space.specs.Crossings.{crossing, crossings, away};
 ghost use Rattle.samples.specs.Answers.{crossed, written};
-ghost use Rattle.samples.specs.Finders.{crossings_ahead, crossings_from};
+ghost use Rattle.samples.specs.Finders.{then, sign_of, seen_side, seen_place, crossings_ahead, crossings_from};
 
 use crate::finder::{Finder, list};
 use crate::limits::{is_height, is_scale};
@@ -11,19 +12,31 @@ use crate::refusals::Refusal;
 use scale_space::crossings::{Crossing, Direction};
 use std::cmp::Ordering;
 
-/// The last sample that was not at the height: on which side it lay, and its place.
-#[derive(Clone, Copy)]
-enum Seen {
-    Nothing,
-    Below(usize),
-    Above(usize),
-}
-
-/// Reads along the samples: what it has seen last lies below or above the height, and each sample off the height moves it.
+/// Reads along the samples, from one that is not at the height to the next.
 #[derive(Clone, Copy)]
 struct CrossingFinder {
     height: i64,
-    seen: Seen,
+    /// How the last sample that was not at the height compares to it, and its place.
+    seen: Option<(Ordering, usize)>,
+}
+
+impl CrossingFinder {
+    /// The crossing from the last sample to one at a place that compares so to the height, if the two lie on opposite sides.
+    fn crossing(&self, to: usize, side: Ordering) -> Option<Crossing>
+        ensures { (v : ℤ) (cs : List Crossing) → crossing (seen_side self.now.seen) (sign_of side) (spot (seen_place self.now.seen) self.now.height) (spot to v) cs ≡ then result cs }
+    {
+        let (last, from) = self.seen?;
+        let direction = match (last, side) {
+            (Ordering::Less, Ordering::Greater) => Direction::Up,
+            (Ordering::Greater, Ordering::Less) => Direction::Down,
+            _ => return None,
+        };
+        Some(Crossing {
+            from,
+            to,
+            direction,
+        })
+    }
 }
 
 impl Finder for CrossingFinder {
@@ -34,33 +47,13 @@ impl Finder for CrossingFinder {
     ghost nothing = { unfold crossings_ahead crossings_from away in λ f n. refl };
 
     fn read(&mut self, place: usize, sample: i64) -> Option<Crossing> {
-        match (self.seen, sample.cmp(&self.height)) {
-            (_, Ordering::Equal) => None,
-            (Seen::Below(from), Ordering::Greater) => {
-                self.seen = Seen::Above(place);
-                Some(Crossing {
-                    from,
-                    to: place,
-                    direction: Direction::Up,
-                })
-            }
-            (_, Ordering::Greater) => {
-                self.seen = Seen::Above(place);
-                None
-            }
-            (Seen::Above(from), Ordering::Less) => {
-                self.seen = Seen::Below(place);
-                Some(Crossing {
-                    from,
-                    to: place,
-                    direction: Direction::Down,
-                })
-            }
-            (_, Ordering::Less) => {
-                self.seen = Seen::Below(place);
-                None
-            }
+        let side = sample.cmp(&self.height);
+        if side.is_eq() {
+            return None;
         }
+        let crossing = self.crossing(place, side);
+        self.seen = Some((side, place));
+        crossing
     }
 }
 
@@ -80,7 +73,7 @@ pub fn find(
     }
     let finder = CrossingFinder {
         height: height * scale as i64,
-        seen: Seen::Nothing,
+        seen: None,
     };
     list(finder, samples, table)
 }

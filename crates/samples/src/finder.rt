@@ -1,5 +1,5 @@
 //! Finders: they read samples one by one, and give a record where a sample completes one.
-ghost use Rattle.std.specs.Prelude.{◌≡◌, ℕ, ◌+◌, ◌≤◌, min, List, [], ◌∷◌, length, ℤ, Ok};
+ghost use Rattle.std.specs.Prelude.{◌≡◌, ℕ, ◌+◌, ◌≤◌, List, [], ◌∷◌, ◌++◌, length, drop, set, ℤ};
 ghost use Rattle.samples.specs.Answers.{listed, written};
 ghost use Rattle.samples.specs.Finders.{then};
 
@@ -18,49 +18,39 @@ pub trait Finder: Copy {
     ghost nothing: { (f : Self) (place : ℕ) → finds f place [] ≡ [] };
 }
 
-/// How many records a finder gives for the samples.
-fn count<F: Finder>(mut finder: F, samples: &[i64]) -> usize
-    ensures { result ≡ length (F.finds finder 0 samples.now) }
+/// Puts an item at a place of the table, if it has that place.
+fn put<T: Copy>(table: &mut [T], place: usize, item: T)
+    ensures { table.new ≡ set table.old place item }
+{
+    if place < table.len() {
+        table[place] = item;
+    }
+}
+
+/// Puts a finder's records into a table, in order, as far as it has room, and answers how many records there are.
+fn fill<F: Finder>(mut finder: F, samples: &[i64], table: &mut [F::Found]) -> usize
+    ensures count { result ≡ length (F.finds finder 0 samples.now) }
+    ensures few { result ≤ length samples.now }
+    ensures places { result ≤ length table.old → table.new ≡ F.finds finder 0 samples.now ++ drop result table.old }
 {
     let mut found = 0;
     for (i, sample) in samples.iter().enumerate() {
-        if let Some(_) = finder.read(i, *sample) {
+        if let Some(record) = finder.read(i, *sample) {
+            put(table, found, record);
             found += 1;
         }
     }
     found
 }
 
-/// Writes a finder's records into a table, in order, and answers how many there are. Each sample gives at most one, so room
-/// for as many as there are samples is enough.
-fn write<F: Finder>(mut finder: F, samples: &[i64], table: &mut [F::Found]) -> usize
-    requires { min (length samples.now) (length (F.finds finder 0 samples.now)) ≤ length table.old }
-    ensures answer { Ok result ≡ listed (F.finds finder 0 samples.now) (length table.old) }
-    ensures places { table.new ≡ written (Ok result) (F.finds finder 0 samples.now) table.old }
-{
-    let mut next = 0;
-    for (i, sample) in samples.iter().enumerate() {
-        if let Some(record) = finder.read(i, *sample) {
-            table[next] = record;
-            next += 1;
-        }
-    }
-    next
-}
-
 /// Puts a finder's records into the caller's table, in order, unless they are too many for it. Only a table shorter than the
-/// samples can be too short: for it they are counted first, so that a refusal writes none.
+/// samples can be too short: for it they are counted first, with no room to write, so that a refusal writes none.
 pub fn list<F: Finder>(finder: F, samples: &[i64], table: &mut [F::Found]) -> Result<usize, Refusal>
     ensures answer { result ≡ listed (F.finds finder 0 samples.now) (length table.old) }
     ensures places { table.new ≡ written result (F.finds finder 0 samples.now) table.old }
 {
-    let found = if samples.len() > table.len() {
-        count(finder, samples)
-    } else {
-        0
-    };
-    if found > table.len() {
+    if samples.len() > table.len() && fill(finder, samples, &mut table[..0]) > table.len() {
         return Err(Refusal::TableTooShort);
     }
-    Ok(write(finder, samples, table))
+    Ok(fill(finder, samples, table))
 }

@@ -2,26 +2,27 @@
 ghost use Rattle.std.specs.Prelude.{◌≡◌};
 ghost use Rattle.samples.specs.Refusals.{refusal_number};
 
+use std::error::Error;
 use std::fmt;
 
 /// The causes for which the calls of this library refuse. A refusal leaves everything as it was.
 #[derive(Clone, Copy, PartialEq, Eq, Debug)]
 pub enum Refusal {
-    OutOfRange,
-    AllZero,
-    NotAdmitted,
-    NoSuchPlace,
-    TooManyPasses,
-    ScaleTooLarge,
-    ProfileLength,
-    HeightOutOfRange,
-    TooFewSamples,
-    BufferTooShort,
-    WindowLength,
-    SampleTooLarge,
-    TableTooShort,
-    ScaleOrHeight,
-    ReachTooLong,
+    OutOfRange = 1,
+    AllZero = 2,
+    NotAdmitted = 3,
+    NoSuchPlace = 4,
+    TooManyPasses = 5,
+    ScaleTooLarge = 6,
+    ProfileLength = 7,
+    HeightOutOfRange = 8,
+    TooFewSamples = 9,
+    BufferTooShort = 10,
+    WindowLength = 11,
+    SampleTooLarge = 12,
+    TableTooShort = 13,
+    ScaleOrHeight = 14,
+    ReachTooLong = 15,
 }
 
 impl Refusal {
@@ -29,23 +30,7 @@ impl Refusal {
     pub fn number(self) -> u8
         ensures { result ≡ refusal_number self }
     {
-        match self {
-            Refusal::OutOfRange => 1,
-            Refusal::AllZero => 2,
-            Refusal::NotAdmitted => 3,
-            Refusal::NoSuchPlace => 4,
-            Refusal::TooManyPasses => 5,
-            Refusal::ScaleTooLarge => 6,
-            Refusal::ProfileLength => 7,
-            Refusal::HeightOutOfRange => 8,
-            Refusal::TooFewSamples => 9,
-            Refusal::BufferTooShort => 10,
-            Refusal::WindowLength => 11,
-            Refusal::SampleTooLarge => 12,
-            Refusal::TableTooShort => 13,
-            Refusal::ScaleOrHeight => 14,
-            Refusal::ReachTooLong => 15,
-        }
+        self as u8
     }
 
     /// What the refusal says to a reader.
@@ -75,3 +60,5 @@ impl fmt::Display for Refusal {
         f.write_str(self.words())
     }
 }
+
+impl Error for Refusal {}

@@ -2,24 +2,10 @@
 ghost use Rattle.std.specs.Prelude.{◌≡◌, ◌*◌, ◌≤◌, true, map, length, unsigned_abs};
 ghost use Rattle.scale_space.specs.Levels.{Level, whole, Calmer};
 ghost use Rattle.scale_space.specs.Rounding.{rounded};
-ghost use Rattle.samples.specs.Answers.{scale_lawful, heights_fit, rounding, rounding_one, written};
+ghost use Rattle.samples.specs.Answers.{scale_lawful, rounding, rounding_one, written};
 
-use crate::limits::{LARGEST_HEIGHT, is_scale};
+use crate::limits::{LARGEST_HEIGHT, are_within, is_scale};
 use crate::refusals::Refusal;
-
-/// Whether no numerator is larger than the largest height at this scale.
-fn fits(numerators: &[i64], scale: u64) -> bool
-    requires { scale_lawful scale ≡ true }
-    ensures { result ≡ heights_fit scale numerators.now }
-{
-    let limit = LARGEST_HEIGHT * scale;
-    for numerator in numerators {
-        if numerator.unsigned_abs() > limit {
-            return false;
-        }
-    }
-    true
-}
 
 /// The whole height nearest to a numerator over the scale; a half goes upward, so the quotient is the one toward the
 /// lower number at both signs.
@@ -45,26 +31,6 @@ pub fn round_one(numerator: i64, scale: u64) -> Result<i64, Refusal>
     Ok(nearest(numerator, scale))
 }
 
-/// `round`, less the law that it carries.
-fn round_all(numerators: &[i64], scale: u64, out: &mut [i64]) -> Result<usize, Refusal>
-    ensures answer { result ≡ rounding numerators.now scale (length out.old) }
-    ensures places { out.new ≡ written result (map (rounded scale) numerators.now) out.old }
-{
-    if !is_scale(scale) {
-        return Err(Refusal::ScaleOrHeight);
-    }
-    if numerators.len() > out.len() {
-        return Err(Refusal::BufferTooShort);
-    }
-    if !fits(numerators, scale) {
-        return Err(Refusal::SampleTooLarge);
-    }
-    for (i, numerator) in numerators.iter().enumerate() {
-        out[i] = nearest(*numerator, scale);
-    }
-    Ok(numerators.len())
-}
-
 /// Rounds numerators over the scale to whole heights, halves upward, into the caller's output. Answers how many there are;
 /// a refusal writes none. Whatever the level, its rounding has no more turns, crosses no whole height more often, and stays
 /// between the lowest and the highest sample.
@@ -73,5 +39,18 @@ pub fn round(numerators: &[i64], scale: u64, out: &mut [i64]) -> Result<usize, R
     ensures places { out.new ≡ written result (map (rounded scale) numerators.now) out.old }
     ensures calm { (l : Level) → 1 ≤ l.scale → Calmer l (whole l) }
 {
-    round_all(numerators, scale, out)
+    if !is_scale(scale) {
+        return Err(Refusal::ScaleOrHeight);
+    }
+    if numerators.len() > out.len() {
+        return Err(Refusal::BufferTooShort);
+    }
+    if !are_within(numerators, LARGEST_HEIGHT * scale) {
+        return Err(Refusal::SampleTooLarge);
+    }
+    // By index, since of what a loop over `iter_mut().zip(..)` writes nothing is known.
+    for (i, numerator) in numerators.iter().enumerate() {
+        out[i] = nearest(*numerator, scale);
+    }
+    Ok(numerators.len())
 }

@@ -1,53 +1,41 @@
 //! The turns of a level.
-ghost use Rattle.std.specs.Prelude.{◌≡◌, length};
+ghost use Rattle.std.specs.Prelude.{◌≡◌, List, length};
+ghost use Rattle.std.specs.Ordering.{ordering_reverse};
 ghost use Rattle.std.proofs.Math.Path.{refl};
-ghost use Rattle.scale_space.specs.Turns.{turns, flats_after};
+ghost use Rattle.scale_space.specs.Turns.{spot, turning, turns, flats_after};
 ghost use Rattle.samples.specs.Answers.{listed, written};
-ghost use Rattle.samples.specs.Finders.{turns_ahead, turns_from};
+ghost use Rattle.samples.specs.Finders.{then, sign_of, turns_ahead, turns_from};
 
 use crate::finder::{Finder, list};
 use crate::refusals::Refusal;
 use scale_space::turns::{Turn, TurnKind};
 use std::cmp::Ordering;
 
-/// Where the samples are heading, as far as they have been read.
-#[derive(Clone, Copy)]
-enum Heading {
-    Level,
-    Rising,
-    Falling,
-}
-
-/// Reads along the samples: it is level, rising or falling, and each sample moves it.
+/// Reads along the samples, flat by flat.
 #[derive(Clone, Copy)]
 struct TurnFinder {
-    heading: Heading,
-    /// The place of the first sample of the flat that is being read.
+    /// How the flat that is being read compares to the one before it, and `Equal` where there is none before.
+    heading: Ordering,
+    /// The place of the flat's first sample.
     place: usize,
     last: i64,
 }
 
 impl TurnFinder {
-    /// The flat that is being read, as a turn.
-    fn turn(&self, kind: TurnKind) -> Turn
-        ensures { result ≡ record { kind = kind; place = self.now.place; numerator = self.now.last } }
+    /// The flat that is being read, as a turn, if a sample that compares so to it makes it one.
+    fn turn(&self, next: Ordering) -> Option<Turn>
+        ensures { (ts : List Turn) → turning (sign_of self.now.heading) (sign_of (ordering_reverse next)) (spot self.now.place self.now.last) ts ≡ then result ts }
     {
-        Turn {
+        let kind = match (self.heading, next) {
+            (Ordering::Less, Ordering::Greater) => TurnKind::Hollow,
+            (Ordering::Greater, Ordering::Less) => TurnKind::Ridge,
+            _ => return None,
+        };
+        Some(Turn {
             kind,
             place: self.place,
             numerator: self.last,
-        }
-    }
-
-    /// Begins a flat at the place.
-    fn begin(&mut self, heading: Heading, place: usize, sample: i64)
-        ensures { self.new ≡ record { heading = heading; place = place; last = sample } }
-    {
-        *self = TurnFinder {
-            heading,
-            place,
-            last: sample,
-        };
+        })
     }
 }
 
@@ -59,27 +47,17 @@ impl Finder for TurnFinder {
     ghost nothing = { unfold turns_ahead turns_from flats_after in λ f n. refl };
 
     fn read(&mut self, place: usize, sample: i64) -> Option<Turn> {
-        match (self.heading, sample.cmp(&self.last)) {
-            (_, Ordering::Equal) => None,
-            (Heading::Falling, Ordering::Greater) => {
-                let hollow = self.turn(TurnKind::Hollow);
-                self.begin(Heading::Rising, place, sample);
-                Some(hollow)
-            }
-            (_, Ordering::Greater) => {
-                self.begin(Heading::Rising, place, sample);
-                None
-            }
-            (Heading::Rising, Ordering::Less) => {
-                let ridge = self.turn(TurnKind::Ridge);
-                self.begin(Heading::Falling, place, sample);
-                Some(ridge)
-            }
-            (_, Ordering::Less) => {
-                self.begin(Heading::Falling, place, sample);
-                None
-            }
+        let heading = sample.cmp(&self.last);
+        if heading.is_eq() {
+            return None;
         }
+        let turn = self.turn(heading);
+        *self = TurnFinder {
+            heading,
+            place,
+            last: sample,
+        };
+        turn
     }
 }
 
@@ -91,7 +69,7 @@ pub fn find(samples: &[i64], table: &mut [Turn]) -> Result<usize, Refusal>
 {
     let first = samples.first().copied().unwrap_or(0);
     let finder = TurnFinder {
-        heading: Heading::Level,
+        heading: Ordering::Equal,
         place: 0,
         last: first,
     };

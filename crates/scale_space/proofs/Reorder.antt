@@ -1,7 +1,8 @@
 -- The order in a pile does not matter: passes that stand equally often have the same taps.
-use Rattle.std.proofs.Common.{◌≡◌, ℕ, ◌+◌, ◌<◌, true, cond, ◌&&◌, eqb, List, [], ◌∷◌, Decides, sym, refl, ap, subst, ◌∙◌, ap₂, ⊎_elim, arith}
+use Rattle.std.proofs.Common.{◌≡◌, ℕ, ◌+◌, ◌<◌, true, cond, List, [], ◌∷◌, Decides, sym, refl, ap, subst, ◌∙◌, ⊎_elim, arith}
 use Rattle.std.specs.List.{AllByRecursion}
-use Rattle.std.proofs.lemmas.Bool.{cases_Bool, eqb-true, eq-eqb, cond-true, cond-false, false≢true, and_parts, and_from}
+use Rattle.std.proofs.lemmas.Bool.Decides.{nat_tests}
+use Rattle.std.proofs.lemmas.Bool.{cases_Bool, cond-true, cond-false, false≢true}
 use Rattle.scale_space.specs.declared.passes.Pass.{Pass}
 use Rattle.scale_space.specs.declared.passes.Pass.TheVariants.{Pair, Triple}
 use Rattle.scale_space.specs.Taps.{conv}
@@ -11,19 +12,14 @@ use Rattle.scale_space.proofs.Conv.{conv_swap}
 use Rattle.scale_space.proofs.Piles.{weights_some, taps_some}
 
 pub same_true : (p q : Pass) → same p q ≡ true → p ≡ q
-same_true (Pair a b) (Pair d e) t =
-    let h = and_parts (eqb a d) (eqb b e) t in
-    ap₂ Pair (eqb-true a d h.0) (eqb-true b e h.1)
+same_true (Pair a b) (Pair d e) t = grind (arith, nat_tests)
 same_true (Pair a b) (Triple d e f) t = absurd (false≢true t)
 same_true (Triple a b c) (Pair d e) t = absurd (false≢true t)
-same_true (Triple a b c) (Triple d e f) t =
-    let h = and_parts (eqb a d) (eqb b e && eqb c f) t in
-    let k = and_parts (eqb b e) (eqb c f) h.1 in
-    ap (λ w. Triple w b c) (eqb-true a d h.0) ∙ ap₂ (Triple d) (eqb-true b e k.0) (eqb-true c f k.1)
+same_true (Triple a b c) (Triple d e f) t = grind (arith, nat_tests)
 
 pub same_self : (p : Pass) → same p p ≡ true
-same_self (Pair a b) = and_from (eqb a a) (eqb b b) (eq-eqb a a refl) (eq-eqb b b refl)
-same_self (Triple a b c) = and_from (eqb a a) (eqb b b && eqb c c) (eq-eqb a a refl) (and_from (eqb b b) (eqb c c) (eq-eqb b b refl) (eq-eqb c c refl))
+same_self (Pair a b) = grind (arith, nat_tests)
+same_self (Triple a b c) = grind (arith, nat_tests)
 
 pub same_decides : (p q : Pass) → Decides (same p q) (p ≡ q)
 same_decides p q = (same_true p q, λ e. subst (λ z. same p z ≡ true) e (same_self p))

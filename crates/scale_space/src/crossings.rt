@@ -4,8 +4,8 @@ ghost use Rattle.scale_space.specs.Crossings.{direction_number};
 
 #[derive(Clone, Copy, PartialEq, Eq, Debug)]
 pub enum Direction {
-    Up,
-    Down,
+    Up = 1,
+    Down = 2,
 }
 
 impl Direction {
@@ -13,10 +13,7 @@ impl Direction {
     pub fn number(self) -> u8
         ensures { result ≡ direction_number self }
     {
-        match self {
-            Direction::Up => 1,
-            Direction::Down => 2,
-        }
+        self as u8
     }
 }
 

@@ -5,8 +5,8 @@ ghost use Rattle.scale_space.specs.Turns.{kind_number};
 /// A ridge has a lower sample on each side, a hollow a higher one.
 #[derive(Clone, Copy, PartialEq, Eq, Debug)]
 pub enum TurnKind {
-    Ridge,
-    Hollow,
+    Ridge = 1,
+    Hollow = 2,
 }
 
 impl TurnKind {
@@ -14,10 +14,7 @@ impl TurnKind {
     pub fn number(self) -> u8
         ensures { result ≡ kind_number self }
     {
-        match self {
-            TurnKind::Ridge => 1,
-            TurnKind::Hollow => 2,
-        }
+        self as u8
     }
 }
 

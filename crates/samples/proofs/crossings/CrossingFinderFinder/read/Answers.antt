@@ -1,34 +1,19 @@
--- Each arm is one step along the samples off the height.
-use Rattle.std.proofs.Common.{◌≡◌, Less, Equal, Greater, ℕ, rules}
-use Rattle.std.proofs.lemmas.Cmp.{int_ranked}
+-- One step along the samples off the height.
+use Rattle.std.proofs.Common.{◌≡◌, sym, ◌∙◌}
+use Rattle.std.specs.Ordering.{int_cmp}
 use Rattle.std.proofs.lemmas.Int.{to_z-of_z}
-use Rattle.samples.specs.declared.crossings.Seen.TheVariants.{Below, Above}
-use Rattle.samples.proofs.Crossing.{crossings_level, above_on, below_on, crosses_up, crosses_down}
+use Rattle.samples.proofs.Reading.{compared_same}
+use Rattle.samples.proofs.Crossing.{crossings_level, crossings_on}
 use Rattle.samples.proofs.crossings.CrossingFinderFinder.read.Goals as goal
 
-pub returns-in_default-Equal : goal.returns-in_default-Equal
-returns-in_default-Equal c =
+pub returns-then-is_eq : goal.returns-then-is_eq
+returns-then-is_eq c =
     let f = c.ranges.sample in
-    λ rest. crossings_level _ _ _ _ rest (int_ranked c.args.sample c.args.self.now.height Equal (simp to_z-of_z at c.in_default-Equal.ensures))
+    let e : c.cmp-side.result ≡ int_cmp c.args.sample c.args.self.now.height = simp to_z-of_z at c.cmp-side.ensures in
+    λ rest. crossings_level _ _ _ _ rest (compared_same _ _ _ e (sym c.is_eq.ensures ∙ c.if-is_eq.true))
 
-pub returns-in-Below-Greater : goal.returns-in-Below-Greater
-returns-in-Below-Greater c =
+pub returns : goal.returns
+returns c =
     let f = c.ranges.sample in
-    λ rest. crosses_up _ _ _ _ _ rest (int_ranked c.args.sample c.args.self.now.height Greater (simp to_z-of_z at c.in-Below-Greater.ensures)) c.in-Below-Greater.is-0
-
-pub returns-in_default-Greater : goal.returns-in_default-Greater
-returns-in_default-Greater c =
-    let f = c.ranges.sample in
-    let other : ((p : ℕ) → c.args.self.now.seen ≡ Below p → ⊥) = λ p e. search rules in
-    λ rest. above_on _ _ _ _ rest (int_ranked c.args.sample c.args.self.now.height Greater (simp to_z-of_z at c.in_default-Greater.ensures)) other
-
-pub returns-in-Above-Less : goal.returns-in-Above-Less
-returns-in-Above-Less c =
-    let f = c.ranges.sample in
-    λ rest. crosses_down _ _ _ _ _ rest (int_ranked c.args.sample c.args.self.now.height Less (simp to_z-of_z at c.in-Above-Less.ensures)) c.in-Above-Less.is-0
-
-pub returns-in_default-Less : goal.returns-in_default-Less
-returns-in_default-Less c =
-    let f = c.ranges.sample in
-    let other : ((p : ℕ) → c.args.self.now.seen ≡ Above p → ⊥) = λ p e. search rules in
-    λ rest. below_on _ _ _ _ rest (int_ranked c.args.sample c.args.self.now.height Less (simp to_z-of_z at c.in_default-Less.ensures)) other
+    let e : c.cmp-side.result ≡ int_cmp c.args.sample c.args.self.now.height = simp to_z-of_z at c.cmp-side.ensures in
+    λ rest. crossings_on _ _ _ _ _ rest e (sym c.is_eq.ensures ∙ c.if-is_eq.false) ∙ c.crossing-crossing.ensures _ _
