@@ -29,3 +29,4 @@ pub mod Tables
 pub mod Entries
 pub mod Impulse
 pub mod Equality
+pub mod Comparing

@@ -1,15 +1,12 @@
 //! A smoothing pass.
-ghost use Rattle.std.specs.Prelude.{◌≡◌, true, Decides};
+ghost use Rattle.std.specs.Prelude.{◌≡◌, true};
 ghost use Rattle.scale_space.specs.Levels.{Diminishing, Smooths};
 ghost use Rattle.scale_space.specs.Passes.{weights, admitted};
-ghost use Rattle.scale_space.specs.Primes.{same};
-ghost use Rattle.std.specs.Cmp.Rules.{comparing};
-ghost use Rattle.std.proofs.Common.{rules};
 
 use std::fmt;
 
 /// Two or three whole weights, laid on neighbouring samples, first weight first.
-#[derive(Clone, Copy, Debug)]
+#[derive(Clone, Copy, PartialEq, Eq, PartialOrd, Ord, Debug)]
 pub enum Pass {
     Pair(u32, u32),
     Triple(u32, u32, u32),
@@ -26,23 +23,6 @@ impl Pass {
         match *self {
             Pass::Pair(_, _) => true,
             Pass::Triple(a, b, c) => 4 * (a as u128 * c as u128) <= b as u128 * b as u128,
-        }
-    }
-}
-
-impl PartialEq for Pass {
-    ghost eq = { same };
-
-    ghost laws = { Prim.search (comparing, rules) };
-
-    fn eq(&self, other: &Pass) -> bool
-        ensures value { result ≡ same self.now other.now }
-        ensures same { Decides result (self.now ≡ other.now) }
-    {
-        match (*self, *other) {
-            (Pass::Pair(a, b), Pass::Pair(d, e)) => a == d && b == e,
-            (Pass::Triple(a, b, c), Pass::Triple(d, e, f)) => a == d && b == e && c == f,
-            _ => false,
         }
     }
 }
