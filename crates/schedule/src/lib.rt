@@ -3,6 +3,7 @@
 #![tactic(auto)]
 
 pub mod history;
+pub mod laws;
 pub mod pairs;
 pub mod reduction;
 pub mod schedules;
