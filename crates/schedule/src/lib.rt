@@ -7,4 +7,5 @@ pub mod laws;
 pub mod pairs;
 pub mod reduction;
 pub mod schedules;
+pub mod singles;
 pub mod triples;

@@ -17,6 +17,7 @@ impl Schedule {
     }
 
     /// The passes that stand, in order: at most 24, each proper, and of a scale of at most 2^40.
+    #[tactic(auto, using(crate::proofs::Standing::standing))]
     pub fn as_slice(&self) -> &[Pass]
         ensures value { result.now ≡ passes self.now }
         ensures standing { Standing (passes self.now) }
