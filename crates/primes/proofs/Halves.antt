@@ -9,11 +9,6 @@ use Rattle.scale_space.specs.Primes.{halves, Factored}
 use Rattle.scale_space.proofs.Divisors.{common_some, reduced_some}
 use Rattle.scale_space.proofs.Factors.{halves_end, halves_whole, halves_factored}
 
--- the divisor of two weights that are not both 0 is not 0
-pub divisor_some : (a b g : ℕ) → g ≡ common (a ∷ b ∷ []) → 0 < a + b → 0 < g
-unfolding scale
-divisor_some a b g e some = subst (λ n. 0 < n) (sym e) (common_some (a ∷ b ∷ []) (omega arith))
-
 -- where c is 0, a and b are not both 0
 pub end_some : (a b c : ℕ) → Reduced (a ∷ b ∷ c ∷ []) → c ≡ 0 → 0 < a + b
 unfolding scale

@@ -1,7 +1,8 @@
 -- What a prime table holds.
-use Rattle.std.specs.Prelude.{List, take}
+use Rattle.std.specs.Prelude.{List}
+use Rattle.fixed_list.specs.Listed.{listed}
 use Rattle.scale_space.specs.declared.primes.PrimeCount.{PrimeCount}
 use Rattle.primes.specs.declared.tables.PrimeTable.{PrimeTable}
 
 abbrev pub entries : PrimeTable → List PrimeCount
-entries t = take t.len t.records
+entries t = listed t.list

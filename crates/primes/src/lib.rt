@@ -2,6 +2,7 @@
 #![tactic(auto)]
 
 pub mod comparing;
+pub mod laws;
 mod order;
 pub mod roots;
 mod splitting;

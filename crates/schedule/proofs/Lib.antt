@@ -2,6 +2,5 @@ pub mod Meaning
 pub mod Lowest
 pub mod Steps
 pub mod Lists
-pub mod Shifts
 pub mod Standing
 pub mod Runs

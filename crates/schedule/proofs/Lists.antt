@@ -2,7 +2,7 @@
 use Rattle.std.proofs.Common.{◌≡◌, ℕ, zero, suc, ◌+◌, ◌*◌, ◌<◌, ◌≤◌, List, [], ◌∷◌, ◌++◌, length, get_or, take, drop, ap, ◌∙◌, mul-le-mul_left, le-mul_of_pos_right, arith}
 use Rattle.std.specs.List.{remove, AllByRecursion}
 use Rattle.std.proofs.ByRecursion.{All-append, All-take, All-drop}
-use Rattle.std.proofs.lemmas.List.{take-append-drop, take-take, take_more}
+use Rattle.std.proofs.lemmas.List.{take-append-drop, take_more}
 use Rattle.scale_space.specs.declared.passes.Pass.{Pass}
 use Rattle.scale_space.specs.Taps.{scale}
 use Rattle.scale_space.specs.Passes.{weights, Proper, product}
@@ -32,10 +32,9 @@ product_take_le xs i h =
     let m = le-mul_of_pos_right (product (take i xs)) (product_some (drop i xs) (All-drop Proper i xs h)) in
     omega (arith, m, product_append (take i xs) (drop i xs), ap product (take-append-drop i xs))
 
--- within the first n, what one more factor makes stays below a bound of the whole
-pub product_more_le : (xs : List Pass) (n i b : ℕ) (d : Pass) → i < n → n ≤ length xs → AllByRecursion Proper (take n xs) → product (take n xs) ≤ b → product (take i xs) * scale (weights (get_or xs i d)) ≤ b
-product_more_le xs n i b d h k g bound =
-    omega (arith, product_more xs i d (omega arith), ap product (take-take (i + 1) n xs (omega arith)), product_take_le (take n xs) (i + 1) g)
+-- what one more factor makes stays below a bound of the whole
+pub product_more_le : (xs : List Pass) (i b : ℕ) (d : Pass) → i < length xs → AllByRecursion Proper xs → product xs ≤ b → product (take i xs) * scale (weights (get_or xs i d)) ≤ b
+product_more_le xs i b d h g bound = omega (arith, product_more xs i d h, product_take_le xs (i + 1) g)
 
 pub removed_proper : (xs : List Pass) (i : ℕ) → AllByRecursion Proper xs → AllByRecursion Proper (remove xs i)
 removed_proper xs i h = All-append Proper (take i xs) (drop (suc i) xs) (All-take Proper i xs h) (All-drop Proper (suc i) xs h)

@@ -1,6 +1,7 @@
 -- What each call on a schedule leaves standing, and what it answers.
-use Rattle.std.specs.Prelude.{◌≡◌, ℕ, ◌^◌, cond, List, [], ◌∷◌, ◌++◌, length, take, Ok, Err, Result, nat_le, nat_lt}
+use Rattle.std.specs.Prelude.{◌≡◌, ℕ, ◌^◌, cond, List, [], ◌∷◌, ◌++◌, length, Ok, Err, Result, nat_le, nat_lt}
 use Rattle.std.specs.List.{remove}
+use Rattle.fixed_list.specs.Listed.{listed}
 use Rattle.scale_space.specs.declared.passes.Pass.{Pass}
 use Rattle.scale_space.specs.Passes.{product}
 use Rattle.samples.specs.declared.refusals.Refusal.{Refusal}
@@ -9,7 +10,7 @@ use Rattle.schedule.specs.declared.schedules.Schedule.{Schedule}
 
 -- the passes that stand in a schedule
 abbrev pub passes : Schedule → List Pass
-passes s = take s.len s.items
+passes s = listed s.list
 
 pub record Outcome : Type 0 where
   pub answer : Result ℕ Refusal

@@ -1,11 +1,13 @@
--- A pair and a triple as passes.
+-- A single pass, a pair and a triple as passes.
+use Rattle.std.specs.Prelude.{ℕ}
 use Rattle.scale_space.specs.declared.passes.Pass.{Pass}
-use Rattle.scale_space.specs.declared.passes.Pass.TheVariants.{Pair as of_pair, Triple as of_triple}
-use Rattle.schedule.specs.declared.pairs.Pair.{Pair}
-use Rattle.schedule.specs.declared.triples.Triple.{Triple}
+use Rattle.schedule.specs.declared.singles.Single.{Single}
 
-abbrev pub pair_pass : Pair → Pass
-pair_pass p = of_pair p.first p.second
+abbrev pub single_pass : {N : ℕ} → Single N → Pass
+single_pass s = s.pass
 
-abbrev pub triple_pass : Triple → Pass
-triple_pass t = of_triple t.first t.second t.third
+abbrev pub pair_pass : Single 2 → Pass
+pair_pass p = single_pass p
+
+abbrev pub triple_pass : Single 3 → Pass
+triple_pass t = single_pass t

@@ -6,7 +6,7 @@ ghost use Rattle.schedule.specs.History.{outcome, replayed, Told, Lawful};
 use crate::schedules::Schedule;
 use samples::refusals::Refusal;
 
-/// A call on a schedule, as a value.
+/// A call on a schedule, as a value. It is no closure, since a history is data: stored, printed and replayed.
 #[derive(Clone, Copy)]
 pub enum Call {
     AddPair(u32, u32),
@@ -18,6 +18,7 @@ pub enum Call {
 
 impl Schedule {
     /// Makes one call. An accepted call answers how many passes then stand, and a refused one changes nothing.
+    #[tactic(auto, using(crate::proofs::Runs::told))]
     pub fn make(&mut self, call: &Call) -> Result<usize, Refusal>
         ensures ends { Ends (outcome (passes self.old) call.now) result (passes self.new) }
         ensures told { Told (passes self.old) result (passes self.new) }

@@ -3,7 +3,9 @@
 #![tactic(auto)]
 
 pub mod history;
+pub mod laws;
 pub mod pairs;
 pub mod reduction;
 pub mod schedules;
+pub mod singles;
 pub mod triples;

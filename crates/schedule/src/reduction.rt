@@ -38,7 +38,10 @@ pub fn gcd3(a: u32, b: u32, c: u32) -> u32
     gcd(a, gcd(b, c))
 }
 
+// Here and below each kind names its weights: a list of them would first have to be made, and the pass be made of it again.
+
 /// The sum of a pass's weights.
+#[tactic(auto, unfolding(scale_space::specs::Taps::scale))]
 pub fn scale_of(pass: Pass) -> u64
     ensures { result ≡ scale (weights pass) }
 {
@@ -61,6 +64,7 @@ fn is_in_range(pass: Pass) -> bool
 }
 
 /// The pass with its weights divided by their greatest common divisor.
+#[tactic(auto, using(scale_space::proofs::Divisors::common_some))]
 fn in_lowest_terms(pass: Pass) -> Pass
     requires { 0 < scale (weights pass) }
     ensures { result ≡ lowest pass }
@@ -79,6 +83,7 @@ fn in_lowest_terms(pass: Pass) -> Pass
 
 /// The pass that weights make: in lowest terms, or refused where a weight is out of range, where all are 0, and where a
 /// triple is not admitted, in that order.
+#[tactic(auto, using(crate::proofs::Lowest::made_whole))]
 pub fn reduce(pass: Pass) -> Result<Pass, Refusal>
     ensures is { result ≡ made pass }
     ensures proper { IfOk result (λ p. proper p ≡ true) }
@@ -98,13 +103,14 @@ pub fn reduce(pass: Pass) -> Result<Pass, Refusal>
 
 /// The pass of the diffusion step p/q, which is the triple (p, 2q - 2p, p). That triple is admitted exactly when 2p is at
 /// most q, so the step needs no test of its own.
+#[tactic(auto, using(crate::proofs::Steps::step_is, crate::proofs::Steps::step_test))]
 pub fn reduce_step(p: u32, q: u32) -> Result<Pass, Refusal>
     ensures is { result ≡ step_made p q }
     ensures proper { IfOk result (λ x. proper x ≡ true) }
     ensures whole { IfOk result (λ x. LosesNothing (step_pass p q) x) }
     ensures test { p ≤ q → admitted (step_pass p q) ≡ nat_le (2 * p) q }
 {
-    if q < 1 || q > LARGEST_DENOMINATOR || p > q {
+    if !(1..=LARGEST_DENOMINATOR).contains(&q) || p > q {
         return Err(Refusal::OutOfRange);
     }
     reduce(Pass::Triple(p, 2 * q - 2 * p, p))

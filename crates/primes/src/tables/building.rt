@@ -12,6 +12,7 @@ use crate::order::is_before;
 use crate::roots::root;
 use crate::splitting::split;
 use crate::tables::PrimeTable;
+use fixed_list::FixedList;
 use scale_space::passes::Pass;
 use scale_space::primes::PrimeCount;
 use schedule::schedules::Schedule;
@@ -22,11 +23,10 @@ impl PrimeTable {
         ensures { entries result ≡ [] }
     {
         PrimeTable {
-            records: [PrimeCount {
+            list: FixedList::new(PrimeCount {
                 prime: Pass::Pair(1, 0),
                 count: 0,
-            }; 48],
-            len: 0,
+            }),
         }
     }
 
@@ -34,23 +34,18 @@ impl PrimeTable {
     fn place(&self, prime: Pass) -> usize
         ensures { result ≡ prefix_len (λ e. before e.prime prime) (entries self.now) }
     {
-        for i in 0..self.len {
-            if !is_before(self.records[i].prime, prime) {
-                return i;
-            }
-        }
-        self.len
+        self.as_slice()
+            .iter()
+            .take_while(|record| is_before(record.prime, prime))
+            .count()
     }
 
     /// Whether the record at a place is that of `prime`.
     fn stands(&self, place: usize, prime: Pass) -> bool
         ensures { Decides result ((place < length (entries self.now)) × ((get_or (entries self.now) place blank).prime ≡ prime)) }
     {
-        if place >= self.len {
-            return false;
-        }
-        let found = self.records[place].prime;
-        found == prime
+        let all = self.as_slice();
+        place < all.len() && all[place].prime == prime
     }
 
     /// Raises the count at a place by one.
@@ -59,8 +54,9 @@ impl PrimeTable {
         requires room { counted (entries self.old) < 48 }
         ensures { entries self.new ≡ slice_set (entries self.old) place (raised (slice_index_or (entries self.old) place blank)) }
     {
-        let line = &mut self.records[place];
-        line.count += 1;
+        let mut record = self.as_slice()[place];
+        record.count += 1;
+        self.list.set(place, record);
     }
 
     /// Puts a record for a first `prime` at a place, and moves the later ones up.
@@ -69,14 +65,7 @@ impl PrimeTable {
         requires room { counted (entries self.old) < 48 }
         ensures { entries self.new ≡ insert (entries self.old) place (single prime) }
     {
-        // Half way through, a record stands twice, and the counts may pass their bound: so a copy is moved up and then kept.
-        let mut records = self.records;
-        for i in (place..self.len).rev() {
-            records[i + 1] = records[i];
-        }
-        records[place] = PrimeCount { prime, count: 1 };
-        self.records = records;
-        self.len += 1;
+        self.list.insert(place, PrimeCount { prime, count: 1 });
     }
 
     /// Counts one more `prime`.
@@ -121,8 +110,7 @@ impl PrimeTable {
         ensures piled { Factored (primes (passes schedule.now)) (taps (passes schedule.now)) }
     {
         let mut table = PrimeTable::new();
-        let all = schedule.as_slice();
-        for pass in all {
+        for pass in schedule.as_slice() {
             table.take(*pass);
         }
         table
@@ -132,6 +120,6 @@ impl PrimeTable {
     pub fn as_slice(&self) -> &[PrimeCount]
         ensures { result.now ≡ entries self.now }
     {
-        &self.records[0..self.len]
+        self.list.as_slice()
     }
 }

@@ -13,24 +13,25 @@ impl Schedule {
     pub fn len(&self) -> usize
         ensures { result ≡ length (passes self.now) }
     {
-        self.len
+        self.list.len()
     }
 
     /// The passes that stand, in order: at most 24, each proper, and of a scale of at most 2^40.
+    #[tactic(auto, using(crate::proofs::Standing::standing))]
     pub fn as_slice(&self) -> &[Pass]
         ensures value { result.now ≡ passes self.now }
         ensures standing { Standing (passes self.now) }
     {
-        &self.items[0..self.len]
+        self.list.as_slice()
     }
 
     /// The product of the passes' scales.
     pub fn scale(&self) -> u64
         ensures { result ≡ product (passes self.now) }
     {
-        let mut scale: u64 = 1;
-        for i in 0..self.len {
-            scale *= scale_of(self.items[i]);
+        let mut scale = 1;
+        for pass in self.as_slice() {
+            scale *= scale_of(*pass);
         }
         scale
     }

@@ -18,10 +18,10 @@ use Rattle.primes.proofs.tables.PrimeTable.of.Goals as goal
 
 pub take-requires : goal.take-requires
 take-requires c =
-    let ps = c.as_slice-all.result.now in
+    let ps = c.as_slice-pass-items.result.now in
     let i = c.loop-pass.pass-index in
-    let e : ps ≡ passes c.args.schedule.now = c.as_slice-all.ensures.value in
-    let s = c.as_slice-all.ensures.standing in
+    let e : ps ≡ passes c.args.schedule.now = c.as_slice-pass-items.ensures.value in
+    let s = c.as_slice-pass-items.ensures.standing in
     let l = c.loop-pass-test.true in
     record {
       proper = All-get_or Proper ps i (Pair 0 0) l (subst (AllByRecursion Proper) (sym e) s.each);
@@ -30,7 +30,7 @@ take-requires c =
 
 pub loop-pass-preserved : goal.loop-pass-preserved
 loop-pass-preserved c =
-    let ps = c.as_slice-all.result.now in
+    let ps = c.as_slice-pass-items.result.now in
     let i = c.loop-pass.pass-index in
     c.take.ensures ∙ ap (λ rs. fold added rs (factors (get_or ps i (Pair 0 0)))) c.loop-pass.invariant ∙ sym (table_more ps i (Pair 0 0) c.loop-pass-test.true)
 
@@ -38,5 +38,5 @@ pub returns : goal.returns
 returns c =
     let ps = passes c.args.schedule.now in
     let is : entries c.loop-pass.table ≡ table ps =
-    c.loop-pass.invariant ∙ ap table (take_all c.loop-pass.pass-index c.as_slice-all.result.now c.loop-pass-test.false ∙ c.as_slice-all.ensures.value) in
-    record { is = is; tabulates = subst (Tabulates (primes ps)) (sym is) (table_tabulates ps); piled = primes_factored ps c.as_slice-all.ensures.standing.each }
+    c.loop-pass.invariant ∙ ap table (take_all c.loop-pass.pass-index c.as_slice-pass-items.result.now c.loop-pass-test.false ∙ c.as_slice-pass-items.ensures.value) in
+    record { is = is; tabulates = subst (Tabulates (primes ps)) (sym is) (table_tabulates ps); piled = primes_factored ps c.as_slice-pass-items.ensures.standing.each }

@@ -5,4 +5,4 @@ use Rattle.primes.specs.Entries.{entries}
 use Rattle.primes.proofs.tables.PrimeTable.of.Given as goal
 
 abbrev pub invariant-loop-pass : goal.invariant-loop-pass
-invariant-loop-pass l = entries l.table ≡ table (take l.pass-index l.all)
+invariant-loop-pass l = entries l.table ≡ table (take l.pass-index l.pass-items)

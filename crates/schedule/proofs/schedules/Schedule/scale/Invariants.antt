@@ -1,7 +1,7 @@
--- So far it is the product of the first i scales.
+-- So far it is the product of the first scales.
 use Rattle.std.proofs.Common.{◌≡◌, take}
 use Rattle.scale_space.specs.Passes.{product}
 use Rattle.schedule.proofs.schedules.Schedule.scale.Given as goal
 
-abbrev pub invariant-loop-i : goal.invariant-loop-i
-invariant-loop-i l = l.scale ≡ product (take l.i l.self.items)
+abbrev pub invariant-loop-pass : goal.invariant-loop-pass
+invariant-loop-pass l = l.scale ≡ product (take l.pass-index l.pass-items)
