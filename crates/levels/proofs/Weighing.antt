@@ -1,5 +1,5 @@
 -- Weights laid on light samples, product by product: nothing wraps.
-use Rattle.std.proofs.Common.{◌≡◌, ℕ, ◌+◌, ◌*◌, ◌/◌, ◌^◌, ◌<◌, ◌≤◌, List, length, get_or, drop, ℤ, pos, negsuc, ◌+ℤ◌, ◌*ℤ◌, nat_abs, sym, refl, ap, ◌∙◌, subst, ap₂, mul-le-mul_left, div-mul-le_self, le-div_iff_mul-le, arith, w64, SFits, to_z, of_z}
+use Rattle.std.proofs.Common.{◌≡◌, ℕ, ◌+◌, ◌*◌, ◌/◌, ◌^◌, ◌<◌, ◌≤◌, List, length, get_or, drop, ℤ, pos, negsuc, ◌+ℤ◌, ◌*ℤ◌, nat_abs, sym, refl, ap, ◌∙◌, subst, ap₂, mul-le-mul_left, div-mul-le_self, le-mul_of_pos_right, le-div_iff_mul-le, arith, w64, SFits, to_z, of_z}
 use borrow.Author.Differences.{product_is, ints}
 use lib.IntN.{+ℤ_idl, +ℤ_idr, +ℤ_assoc}
 use Rattle.std.proofs.ByRecursion.{All-get_or}
@@ -70,27 +70,30 @@ scale_more : (ts : List ℕ) (i : ℕ) → i < length ts → scale (drop i ts) �
 unfolding scale
 scale_more ts i l = at_drop_more scale ts i 0 l
 
-module _ (ts : List ℕ) (xs : List ℤ) (i : ℕ) (a : ℤ) (one : 1 ≤ scale ts) (light : Light (scale ts) xs) (w : Weighed ts xs i a) (l : i < length ts) (m : i < length xs) (t : ℕ) (x : ℤ) (e : t ≡ get_or ts i 0) (d : x ≡ get_or xs i (pos 0)) (n : t < 2 ^ 32) (f : SFits w64 x) where
+module _ (ts : List ℕ) (xs : List ℤ) (i : ℕ) (a : ℤ) (one : 1 ≤ scale ts) (light : Light (scale ts) xs) (w : Weighed ts xs i a) (l : i < length ts) (m : i < length xs) (t : ℕ) (x : ℤ) (e : t ≡ get_or ts i 0) (d : x ≡ get_or xs i (pos 0)) (n : t < 2 ^ 32) where
   abbrev most : ℕ
   most = 2 ^ 60 / scale ts
 
   sample_small : nat_abs x ≤ most
   sample_small = rw d ((le-div_iff_mul-le one).1 (omega (arith, All-get_or (λ x. scale ts * nat_abs x ≤ 2 ^ 60) xs i (pos 0) m light)))
 
+  sample_fits : SFits w64 x
+  sample_fits = fits_size x (omega (arith, sample_small, div-mul-le_self (2 ^ 60) (scale ts), le-mul_of_pos_right most one))
+
   left_room : nat_abs a + most * (t + scale (drop (i + 1) ts)) ≤ 2 ^ 60
   left_room = rw e (subst (λ n. nat_abs a + most * n ≤ 2 ^ 60) (scale_more ts i l) w.room)
 
   pub next_product_fits : SFits w64 (weighted t x)
-  next_product_fits = product_fits most a t x (scale (drop (i + 1) ts)) n f sample_small left_room
+  next_product_fits = product_fits most a t x (scale (drop (i + 1) ts)) n sample_fits sample_small left_room
 
   pub next_total_fits : SFits w64 (a +ℤ kept (weighted t x))
-  next_total_fits = total_fits most a t x (scale (drop (i + 1) ts)) n f sample_small left_room
+  next_total_fits = total_fits most a t x (scale (drop (i + 1) ts)) n sample_fits sample_small left_room
 
   pub weighed_more : Weighed ts xs (i + 1) (kept (a +ℤ kept (weighted t x)))
   weighed_more =
-      subst (Weighed ts xs (i + 1)) (sym (total_read most a t x (scale (drop (i + 1) ts)) n f sample_small left_room)) (record {
+      subst (Weighed ts xs (i + 1)) (sym (total_read most a t x (scale (drop (i + 1) ts)) n sample_fits sample_small left_room)) (record {
         whole = +ℤ_assoc a (pos t *ℤ x) (dot (drop (i + 1) ts) (drop (i + 1) xs)) ∙ ap (λ z. a +ℤ z) (ap₂ (λ u y. pos u *ℤ y +ℤ dot (drop (i + 1) ts) (drop (i + 1) xs)) e d ∙ sym (dot_more ts xs i l m)) ∙ w.whole;
-        room = total_size most a t x (scale (drop (i + 1) ts)) n f sample_small left_room;
+        room = total_size most a t x (scale (drop (i + 1) ts)) n sample_fits sample_small left_room;
       })
 
 pub weighed_all : (ts : List ℕ) (xs : List ℤ) (i : ℕ) (a : ℤ) → Weighed ts xs i a → length ts ≤ i → a ≡ dot ts xs
