@@ -1,8 +1,8 @@
 -- Windows laid in place: what is still to be read is old, and the places that they leave are cleared.
 use Rattle.std.proofs.Common.{◌≡◌, ℕ, zero, suc, ◌+◌, ◌-◌, ◌*◌, ◌^◌, ◌<◌, ◌≤◌, List, [], ◌∷◌, ◌++◌, length, get_or, take, drop, set, replicate, ℤ, pos, ◌+ℤ◌, ◌*ℤ◌, nat_abs, sym, refl, ap, ◌∙◌, subst, ap₂, arith}
-use lib.IntN.{+ℤ_idr}
-use Rattle.std.proofs.ByRecursion.{All-get_or}
-use Rattle.std.proofs.lemmas.List.{append_assoc, length-take-le, length-replicate, get_or-append_right, get_or-drop, get_or-take, take_all, take_at, drop_at, drop_more, set_at, set-append_right, replicate_more, replicate-append-replicate, take-append-drop}
+use borrow.Rule.Slice.PartMut.{put_mid}
+use Rattle.std.proofs.ByRecursion.{All-take, All-drop}
+use Rattle.std.proofs.lemmas.List.{append_assoc, length-take-le, take_all, take_at, take-take, drop_at, drop-take, drop-drop, replicate-append-replicate, take-append-drop}
 use Rattle.scale_space.specs.Taps.{dot, windows}
 use Rattle.scale_space.proofs.Windows.{windows_cons, windows_length}
 use Rattle.levels.specs.Drawing.{laid, Light}
@@ -12,12 +12,6 @@ use Rattle.levels.specs.Drawing.{laid, Light}
 abbrev pub partly : List ℤ → ℕ → List ℤ → List ℤ
 partly ws i old = take i ws ++ drop i old
 
-unwritten : (ws old : List ℤ) (i j : ℕ) → i ≤ length ws → i ≤ j → get_or (partly ws i old) j (pos 0) ≡ get_or old j (pos 0)
-unwritten ws old i j h k = get_or-append_right (take i ws) (drop i old) i j (pos 0) (length-take-le i ws h) k ∙ get_or-drop i old (j - i) (pos 0) ∙ ap (λ n. get_or old n (pos 0)) same
-  where
-    same : i + (j - i) ≡ j
-    same = omega arith
-
 written : (ws old : List ℤ) (i : ℕ) → i < length ws → i < length old → set (partly ws i old) i (get_or ws i (pos 0)) ≡ partly ws (i + 1) old
 written [] old i h k = absurd (omega arith)
 written (w ∷ ws) [] i h k = absurd (omega arith)
@@ -26,102 +20,57 @@ written (w ∷ ws) (o ∷ old) (suc i) h k =
     let n : suc i + 1 ≡ suc (i + 1) = omega arith in
     rw n (ap (λ l. w ∷ l) (written ws old i (omega arith) (omega arith)))
 
-window_at : (ts : List ℕ) (xs : List ℤ) (i : ℕ) → 0 < length ts → i + length ts ≤ length xs → get_or (windows ts xs) i (pos 0) ≡ dot ts (drop i xs)
+windows_count : (ts : List ℕ) (xs : List ℤ) → 1 ≤ length ts → length (windows ts xs) ≡ length xs + 1 - length ts
+windows_count [] xs h = absurd (omega arith)
+windows_count (t ∷ ts) xs h = windows_length t ts xs ∙ omega arith
+
+window_at : (ts : List ℕ) (xs : List ℤ) (i : ℕ) → 1 ≤ length ts → i + length ts ≤ length xs → get_or (windows ts xs) i (pos 0) ≡ dot ts (drop i xs)
 window_at ts [] i p h = absurd (omega arith)
 window_at ts (x ∷ xs) zero p h = ap (λ l. get_or l zero (pos 0)) (windows_cons ts x xs (omega arith))
 window_at ts (x ∷ xs) (suc i) p h = ap (λ l. get_or l (suc i) (pos 0)) (windows_cons ts x xs (omega arith)) ∙ window_at ts xs i p (omega arith)
 
-two_at : (a b : ℕ) (xs : List ℤ) (i : ℕ) → i + 1 < length xs → get_or (windows (a ∷ b ∷ []) xs) i (pos 0) ≡ (pos a *ℤ get_or xs i (pos 0)) +ℤ (pos b *ℤ get_or xs (i + 1) (pos 0))
+dot_take : (ts : List ℕ) (xs : List ℤ) → dot ts (take (length ts) xs) ≡ dot ts xs
 unfolding dot
-two_at a b xs i h =
-    let first = drop_more xs i (pos 0) (omega arith) in
-    let second = drop_more xs (i + 1) (pos 0) h in
-    window_at (a ∷ b ∷ []) xs i (omega arith) (omega arith)
-    ∙ ap (dot (a ∷ b ∷ [])) (first ∙ ap (λ l. get_or xs i (pos 0) ∷ l) second)
-    ∙ ap (λ z. (pos a *ℤ get_or xs i (pos 0)) +ℤ z) (+ℤ_idr (pos b *ℤ get_or xs (i + 1) (pos 0)))
+dot_take [] xs = refl
+dot_take (t ∷ ts) [] = refl
+dot_take (t ∷ ts) (x ∷ xs) = ap (λ z. pos t *ℤ x +ℤ z) (dot_take ts xs)
 
-three_at : (a b c : ℕ) (xs : List ℤ) (i : ℕ) → i + 2 < length xs → get_or (windows (a ∷ b ∷ c ∷ []) xs) i (pos 0) ≡ (pos a *ℤ get_or xs i (pos 0)) +ℤ ((pos b *ℤ get_or xs (i + 1) (pos 0)) +ℤ (pos c *ℤ get_or xs (i + 2) (pos 0)))
-unfolding dot
-three_at a b c xs i h =
-    let n : i + 1 + 1 ≡ i + 2 = omega arith in
-    let first = drop_more xs i (pos 0) (omega arith) in
-    let second = drop_more xs (i + 1) (pos 0) (omega arith) in
-    let third : drop (i + 1 + 1) xs ≡ get_or xs (i + 2) (pos 0) ∷ drop (i + 2 + 1) xs = rw n (drop_more xs (i + 2) (pos 0) h) in
-    window_at (a ∷ b ∷ c ∷ []) xs i (omega arith) (omega arith)
-    ∙ ap (dot (a ∷ b ∷ c ∷ [])) (first ∙ ap (λ l. get_or xs i (pos 0) ∷ l) (second ∙ ap (λ l. get_or xs (i + 1) (pos 0) ∷ l) third))
-    ∙ ap (λ z. (pos a *ℤ get_or xs i (pos 0)) +ℤ ((pos b *ℤ get_or xs (i + 1) (pos 0)) +ℤ z)) (+ℤ_idr (pos c *ℤ get_or xs (i + 2) (pos 0)))
-
--- ---- the loops: ts are the weights, and old is what the buffer held
-module _ (t : ℕ) (ts : List ℕ) (old : List ℤ) (count : ℕ) (room : count ≤ length old) where
+-- n weights laid on the first `count` samples
+module _ (ts : List ℕ) (old : List ℤ) (n count : ℕ) (len : length ts ≡ n) (some : 1 ≤ n) (long : n ≤ count) (room : count ≤ length old) where
   abbrev pub laying : List ℤ
-  laying = windows (t ∷ ts) (take count old)
+  laying = windows ts (take count old)
 
-  pub laying_length : length laying ≡ count - length ts
-  laying_length = windows_length t ts (take count old) ∙ ap (λ n. n - length ts) (length-take-le count old room)
+  laying_length : length laying ≡ count - n + 1
+  laying_length = omega (arith, windows_count ts (take count old) (omega arith), length-take-le count old room)
 
-  pub read_old : (work : List ℤ) (i j : ℕ) → i + length ts < count → work ≡ partly laying i old → i ≤ j → j < count → get_or work j (pos 0) ≡ get_or (take count old) j (pos 0)
-  read_old work i j h e k m = ap (λ l. get_or l j (pos 0)) e ∙ unwritten laying old i j (omega (arith, laying_length)) k ∙ sym (get_or-take count old j (pos 0) m)
+  -- what window i reads is old
+  read_is : (work : List ℤ) (i m : ℕ) → i < count - n + 1 → m ≡ n → work ≡ partly laying i old → take m (drop i work) ≡ take n (drop i (take count old))
+  read_is work i m h e f =
+      let front : length (take i laying) ≡ i = length-take-le i laying (omega (arith, laying_length)) in
+      let whole : count ≡ i + (count - i) = omega arith in
+      ap₂ take e (ap (drop i) f ∙ drop_at (take i laying) (drop i old) i front)
+      ∙ sym (ap (λ j. take n (drop i (take j old))) whole ∙ ap (take n) (drop-take i (count - i) old) ∙ take-take n (count - i) (drop i old) (omega arith))
 
-  pub read_light : (s : ℕ) (work : List ℤ) (i j : ℕ) → Light s (take count old) → i + length ts < count → work ≡ partly laying i old → i ≤ j → j < count → s * nat_abs (get_or work j (pos 0)) ≤ 2 ^ 60
-  read_light s work i j light h e k m = subst (λ x. s * nat_abs x ≤ 2 ^ 60) (sym (read_old work i j h e k m)) (All-get_or (λ x. s * nat_abs x ≤ 2 ^ 60) (take count old) j (pos 0) (omega (arith, length-take-le count old room)) light)
+  pub read_light : (s : ℕ) (work : List ℤ) (i m : ℕ) → Light s (take count old) → i < count - n + 1 → m ≡ n → work ≡ partly laying i old → Light s (take m (drop i work))
+  read_light s work i m light h e f = subst (Light s) (sym (read_is work i m h e f)) (All-take (λ x. s * nat_abs x ≤ 2 ^ 60) n _ (All-drop (λ x. s * nat_abs x ≤ 2 ^ 60) i _ light))
 
-  pub written_more : (work : List ℤ) (i : ℕ) (v : ℤ) → i + length ts < count → work ≡ partly laying i old → v ≡ get_or laying i (pos 0) → set work i v ≡ partly laying (i + 1) old
-  written_more work i v h e f = ap₂ (λ l z. set l i z) e f ∙ written laying old i (omega (arith, laying_length)) (omega arith)
+  pub written_more : (work : List ℤ) (i m : ℕ) (v : ℤ) → i < count - n + 1 → m ≡ n → work ≡ partly laying i old → v ≡ dot ts (take m (drop i work)) → set work i v ≡ partly laying (i + 1) old
+  written_more work i m v h e f d =
+      let xs = take count old in
+      let is : v ≡ get_or laying i (pos 0) = d ∙ ap (dot ts) (read_is work i m h e f) ∙ ap (λ k. dot ts (take k (drop i xs))) (sym len) ∙ dot_take ts (drop i xs) ∙ sym (window_at ts xs i (omega arith) (omega (arith, length-take-le count old room))) in
+      ap₂ (λ l z. set l i z) f is ∙ written laying old i (omega (arith, laying_length)) (omega arith)
 
-  pub written_all : (work : List ℤ) (i : ℕ) → count ≤ i + length ts → work ≡ partly laying i old → work ≡ laying ++ drop i old
-  written_all work i h e = e ∙ ap (λ l. l ++ drop i old) (take_all i laying (omega (arith, laying_length)))
-
--- one more of the places after ws is cleared
-cleared_more : (ws old : List ℤ) (m p : ℕ) → p ≡ length ws + m → p < length old → set (ws ++ (replicate m (pos 0) ++ drop p old)) p (pos 0) ≡ ws ++ (replicate (m + 1) (pos 0) ++ drop (p + 1) old)
-cleared_more ws old m p e h =
-    let at : p - length ws ≡ m = omega arith in
-    let zeros = replicate m (pos 0) in
-    let rest = drop (p + 1) old in
-    let inner : set (zeros ++ drop p old) m (pos 0) ≡ replicate (m + 1) (pos 0) ++ rest = ap (λ l. set (zeros ++ l) m (pos 0)) (drop_more old p (pos 0) h) ∙ set_at zeros (get_or old p (pos 0)) rest (pos 0) m (length-replicate m (pos 0)) ∙ sym (append_assoc zeros (pos 0 ∷ []) rest) ∙ ap (λ l. l ++ rest) (replicate_more m (pos 0)) in
-    set-append_right ws (zeros ++ drop p old) (length ws) p (pos 0) refl (omega arith)
-    ∙ ap (λ n. ws ++ set (zeros ++ drop p old) n (pos 0)) at
-    ∙ ap (λ l. ws ++ l) inner
-
-module _ (a b : ℕ) (old : List ℤ) (count : ℕ) (some : 2 ≤ count) (room : count ≤ length old) where
-  pub pair_more : (work : List ℤ) (i : ℕ) (v : ℤ) → i < count - 1 → work ≡ partly (laying a (b ∷ []) old count room) i old → v ≡ (pos a *ℤ get_or work i (pos 0)) +ℤ (pos b *ℤ get_or work (i + 1) (pos 0)) → set work i v ≡ partly (laying a (b ∷ []) old count room) (i + 1) old
-  pair_more work i v h e f =
-      let read = read_old a (b ∷ []) old count room work i in
-      written_more a (b ∷ []) old count room work i v (omega arith) e
-      (f ∙ ap₂ (λ x y. (pos a *ℤ x) +ℤ (pos b *ℤ y)) (read i (omega arith) e (omega arith) (omega arith)) (read (i + 1) (omega arith) e (omega arith) (omega arith))
-      ∙ sym (two_at a b (take count old) i (omega (arith, length-take-le count old room))))
-
-  pub pair_end : (work : List ℤ) (i : ℕ) → i ≡ count - 1 → work ≡ partly (laying a (b ∷ []) old count room) i old → set work (count - 1) (pos 0) ≡ laid count (laying a (b ∷ []) old count room) old
-  pair_end work i h e =
-      let ws = laying a (b ∷ []) old count room in
-      let n : length ws ≡ count - 1 = laying_length a (b ∷ []) old count room in
-      let all : work ≡ ws ++ drop (count - 1) old = written_all a (b ∷ []) old count room work i (omega arith) e ∙ ap (λ j. ws ++ drop j old) h in
-      let one : count - length ws ≡ 1 = omega arith in
-      let next : count - 1 + 1 ≡ count = omega arith in
-      ap (λ l. set l (count - 1) (pos 0)) all
-      ∙ cleared_more ws old 0 (count - 1) (omega arith) (omega arith)
-      ∙ ap₂ (λ m j. ws ++ (replicate m (pos 0) ++ drop j old)) (sym one) next
-
-module _ (a b c : ℕ) (old : List ℤ) (count : ℕ) (some : 3 ≤ count) (room : count ≤ length old) where
-  pub triple_more : (work : List ℤ) (i : ℕ) (v : ℤ) → i < count - 2 → work ≡ partly (laying a (b ∷ c ∷ []) old count room) i old → v ≡ (pos a *ℤ get_or work i (pos 0)) +ℤ ((pos b *ℤ get_or work (i + 1) (pos 0)) +ℤ (pos c *ℤ get_or work (i + 2) (pos 0))) → set work i v ≡ partly (laying a (b ∷ c ∷ []) old count room) (i + 1) old
-  triple_more work i v h e f =
-      let read = read_old a (b ∷ c ∷ []) old count room work i in
-      written_more a (b ∷ c ∷ []) old count room work i v (omega arith) e
-      (f ∙ ap (λ x. (pos a *ℤ x) +ℤ ((pos b *ℤ get_or work (i + 1) (pos 0)) +ℤ (pos c *ℤ get_or work (i + 2) (pos 0)))) (read i (omega arith) e (omega arith) (omega arith))
-      ∙ ap₂ (λ y z. (pos a *ℤ get_or (take count old) i (pos 0)) +ℤ ((pos b *ℤ y) +ℤ (pos c *ℤ z))) (read (i + 1) (omega arith) e (omega arith) (omega arith)) (read (i + 2) (omega arith) e (omega arith) (omega arith))
-      ∙ sym (three_at a b c (take count old) i (omega (arith, length-take-le count old room))))
-
-  pub triple_end : (work : List ℤ) (i : ℕ) → i ≡ count - 2 → work ≡ partly (laying a (b ∷ c ∷ []) old count room) i old → set (set work (count - 2) (pos 0)) (count - 1) (pos 0) ≡ laid count (laying a (b ∷ c ∷ []) old count room) old
-  triple_end work i h e =
-      let ws = laying a (b ∷ c ∷ []) old count room in
-      let n : length ws ≡ count - 2 = laying_length a (b ∷ c ∷ []) old count room in
-      let all : work ≡ ws ++ drop (count - 2) old = written_all a (b ∷ c ∷ []) old count room work i (omega arith) e ∙ ap (λ j. ws ++ drop j old) h in
-      let two : count - length ws ≡ 2 = omega arith in
-      let next : count - 2 + 1 ≡ count - 1 = omega arith in
-      let end : count - 1 + 1 ≡ count = omega arith in
-      let once : set work (count - 2) (pos 0) ≡ ws ++ (replicate 1 (pos 0) ++ drop (count - 1) old) = ap (λ l. set l (count - 2) (pos 0)) all ∙ cleared_more ws old 0 (count - 2) (omega arith) (omega arith) ∙ ap (λ j. ws ++ (replicate 1 (pos 0) ++ drop j old)) next in
-      ap (λ l. set l (count - 1) (pos 0)) once
-      ∙ cleared_more ws old 1 (count - 1) (omega arith) (omega arith)
-      ∙ ap₂ (λ m j. ws ++ (replicate m (pos 0) ++ drop j old)) (sym two) end
+  -- all windows are written, and the places after them cleared
+  pub cleared : (work zeros : List ℤ) (i : ℕ) → i ≡ count - n + 1 → work ≡ partly laying i old → zeros ≡ replicate (count - (count - n + 1)) (pos 0) → put_mid (count - n + 1) (count - (count - n + 1)) work zeros ≡ laid count laying old
+  cleared work zeros i e f z =
+      let left = count - n + 1 in
+      let size : length laying ≡ left = laying_length in
+      let end : left + (count - left) ≡ count = omega arith in
+      let all : work ≡ laying ++ drop left old = f ∙ ap₂ (λ l j. l ++ drop j old) (take_all i laying (omega arith)) e in
+      let rest : drop (count - left) (drop left work) ≡ drop count old = ap (λ l. drop (count - left) (drop left l)) all ∙ ap (drop (count - left)) (drop_at laying (drop left old) left size) ∙ drop-drop (count - left) left old ∙ ap (λ j. drop j old) end in
+      let front : take left work ≡ laying = ap (take left) all ∙ take_at laying (drop left old) left size in
+      let zero : zeros ≡ replicate (count - length laying) (pos 0) = z ∙ ap (λ m. replicate (count - m) (pos 0)) (sym size) in
+      (λ j. front j ++ (zero j ++ rest j))
 
 -- ---- from one laying to the next
 pub laid_none : (n : ℕ) (old : List ℤ) → n ≤ length old → old ≡ laid n (take n old) old

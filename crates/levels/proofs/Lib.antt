@@ -1,5 +1,5 @@
 pub mod Sizes
-pub mod Blending
+pub mod Weighing
 pub mod Laying
 pub mod Stepping
 pub mod Checking

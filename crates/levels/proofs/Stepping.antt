@@ -1,9 +1,9 @@
 -- From one level to the next: shape, sizes, and what the buffer holds.
 use Rattle.std.proofs.Common.{◌≡◌, ℕ, zero, suc, ◌+◌, ◌-◌, ◌*◌, ◌^◌, ◌<◌, ◌≤◌, true, List, [], ◌∷◌, length, get_or, take, drop, ℤ, pos, negsuc, sym, refl, ap, ◌∙◌, subst, ap₂, mul-le-mul_left, arith}
-use Rattle.std.specs.List.{AllByRecursion}
-use Rattle.std.proofs.ByRecursion.{All-drop}
+use Rattle.std.specs.List.{AllByRecursion, sum_by}
+use Rattle.std.proofs.ByRecursion.{All-drop, All-get_or}
 use Rattle.std.proofs.lemmas.List.{at_drop_more, length-take-le}
-use Rattle.std.proofs.lemmas.List.Sums.{fold_more}
+use Rattle.std.proofs.lemmas.List.Sums.{fold_more, sum_by-cons}
 use Rattle.scale_space.specs.declared.passes.Pass.{Pass}
 use Rattle.scale_space.specs.declared.passes.Pass.TheVariants.{Pair, Triple}
 use Rattle.scale_space.specs.Taps.{windows, scale}
@@ -22,6 +22,10 @@ pub reach_split : (i : ℕ) (ps : List Pass) → reach (take i ps) + reach (drop
 reach_split zero ps = omega arith
 reach_split (suc i) [] = refl
 reach_split (suc i) (p ∷ ps) = omega (arith, reach_split i ps)
+
+pub reach_sum : (ps : List Pass) → sum_by (λ p. length (weights p) - 1) ps ≡ reach ps
+reach_sum [] = refl
+reach_sum (p ∷ ps) = sum_by-cons (λ p. length (weights p) - 1) p ps ∙ ap (λ n. (length (weights p) - 1) + n) (reach_sum ps)
 
 -- the pass at a place
 abbrev pub pass_at : List Pass → ℕ → Pass
@@ -67,6 +71,9 @@ module _ (ps : List Pass) (n : ℕ) (old : List ℤ) (ready : Ready ps n old) (i
   count : length here.numerators + reach (take i ps) ≡ n
   count = level_length (take i ps) (take n old) (omega (arith, ready.long, reach_split i ps, length-take-le n old ready.room)) ∙ length-take-le n old ready.room
 
+  pub step_heavy : 1 ≤ scale (weights p)
+  step_heavy = (All-get_or Proper ps i (Pair 0 0) inside ready.proper).some
+
   pub step_long : length (weights p) ≤ length here.numerators
   step_long = omega (arith, count, ready.long, reach_split i ps, reach_at ps i inside, weights_some p)
 
@@ -107,16 +114,3 @@ module _ (ps : List Pass) (n : ℕ) (old : List ℤ) (ready : Ready ps n old) (i
 -- the profile is level 0
 pub first_shape : (n : ℕ) (old : List ℤ) → n ≤ length old → record { length = n; scale = 1 } ≡ shape (ground (take n old))
 first_shape n old h = λ j. record { length = sym (length-take-le n old h) j; scale = 1 }
-
--- ---- the scale of a pass, as the code computes it
-pub pair_scale : (p : Pass) (a b : ℕ) → p ≡ Pair a b → scale (weights p) ≡ a + b
-pair_scale p a b e = ap (λ q. scale (weights q)) e ∙ sum
-  where
-    sum : scale (a ∷ b ∷ []) ≡ a + b
-    sum = unfold scale in omega arith
-
-pub triple_scale : (p : Pass) (a b c : ℕ) → p ≡ Triple a b c → scale (weights p) ≡ a + b + c
-triple_scale p a b c e = ap (λ q. scale (weights q)) e ∙ sum
-  where
-    sum : scale (a ∷ b ∷ c ∷ []) ≡ a + b + c
-    sum = unfold scale in omega arith

@@ -94,6 +94,9 @@ module _ (w : Walk) (more : w.level < w.last) (ps : List Pass) (same : ps ≡ pa
   proper : Proper p
   proper = let all : AllByRecursion Proper (p ∷ drop (w.level + 1) (way w)) = rw first at (All-drop Proper w.level (way w) (way_proper w)) in all.0
 
+  pub pass_heavy : 1 ≤ scale (weights p)
+  pass_heavy = proper.some
+
   pub pass_long : length (weights p) ≤ w.count
   pass_long = omega (arith, w.long, ap reach first, weights_some p)
 

@@ -1,6 +1,6 @@
 -- What draw answers, and what its work buffer holds afterwards.
-use Rattle.std.specs.Prelude.{ℕ, ◌-◌, ◌*◌, ◌^◌, ◌≤◌, Bool, true, cond, ◌&&◌, List, [], ◌∷◌, ◌++◌, length, take, drop, replicate, ℤ, pos, Ok, Err, Result, nat_le, nat_lt, unsigned_abs}
-use Rattle.std.specs.List.{AllByRecursion}
+use Rattle.std.specs.Prelude.{ℕ, ◌-◌, ◌*◌, ◌^◌, ◌≤◌, Bool, cond, ◌&&◌, List, ◌++◌, length, take, drop, replicate, ℤ, pos, Ok, Err, Result, nat_le, nat_lt, unsigned_abs}
+use Rattle.std.specs.List.{AllByRecursion, list_all}
 use Rattle.scale_space.specs.declared.passes.Pass.{Pass}
 use Rattle.scale_space.specs.Levels.{Level}
 use Rattle.scale_space.specs.Passes.{reach, level}
@@ -11,8 +11,7 @@ use Rattle.levels.specs.declared.draw.Drawn.{Drawn}
 
 -- each height is from -100,000 to 100,000
 abbrev pub heights_lawful : List ℤ → Bool
-heights_lawful [] = true
-heights_lawful (h ∷ hs) = height_lawful h && heights_lawful hs
+heights_lawful hs = list_all height_lawful hs
 
 -- why level k of the passes ps cannot be drawn from the profile hs with a work buffer of `room` places, if it cannot
 abbrev pub allowed : List Pass → ℕ → List ℤ → ℕ → Result (Unit {0}) Refusal

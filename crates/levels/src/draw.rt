@@ -1,19 +1,17 @@
 //! The drawing of a level.
 ghost use Rattle.std.specs.Prelude.{◌≡◌, ◌+◌, ◌-◌, ◌*◌, ◌^◌, ◌<◌, ◌≤◌, true, List, [], ◌∷◌, ◌++◌, length, take, drop, ℤ, pos, ◌+ℤ◌, ◌*ℤ◌, unsigned_abs};
 ghost use Rattle.std.specs.List.{AllByRecursion};
-ghost use Rattle.scale_space.specs.Taps.{windows, scale};
+ghost use Rattle.scale_space.specs.Taps.{dot, windows, scale};
 ghost use Rattle.scale_space.specs.Passes.{weights, Proper, reach, product, level};
 ghost use Rattle.scale_space.specs.Laws.{Calm};
 ghost use Rattle.schedule.specs.Calls.{passes};
 ghost use Rattle.levels.specs.Drawing.{heights_lawful, allowed, shape, drawn, laid, worked, Light};
 
-use samples::limits::is_height;
+use samples::limits::{MOST_HEIGHTS, is_height};
 use samples::refusals::Refusal;
 use scale_space::passes::Pass;
+use schedule::reduction::scale_of;
 use schedule::schedules::Schedule;
-
-/// The most heights of a profile.
-const MOST_HEIGHTS: usize = 2048;
 
 /// How long a level is, and what its numerators are to be divided by.
 #[derive(Clone, Copy, PartialEq, Eq, Debug)]
@@ -25,12 +23,7 @@ pub struct Drawn {
 fn are_lawful(heights: &[i64]) -> bool
     ensures { result ≡ heights_lawful heights.now }
 {
-    for height in heights {
-        if !is_height(*height) {
-            return false;
-        }
-    }
-    true
+    heights.iter().all(|height| is_height(*height))
 }
 
 /// How many samples fewer a pass leaves.
@@ -48,11 +41,7 @@ fn reach_of(passes: &[Pass]) -> usize
     requires { length passes.now ≤ 24 }
     ensures { result ≡ reach passes.now }
 {
-    let mut fewer = 0;
-    for pass in passes {
-        fewer += fewer_by(*pass);
-    }
-    fewer
+    passes.iter().map(|pass| fewer_by(*pass)).sum()
 }
 
 /// Whether level k can be drawn, and if not, why not.
@@ -78,22 +67,6 @@ pub(crate) fn check(passes: &[Pass], k: usize, profile: &[i64], room: usize) -> 
     Ok(())
 }
 
-/// a x + b y.
-fn blend_two(a: u32, b: u32, x: i64, y: i64) -> i64
-    requires { ((a + b) * unsigned_abs x ≤ 2 ^ 60) × ((a + b) * unsigned_abs y ≤ 2 ^ 60) }
-    ensures { result ≡ (pos a *ℤ x) +ℤ (pos b *ℤ y) }
-{
-    a as i64 * x + b as i64 * y
-}
-
-/// a x + b y + c z.
-fn blend_three(a: u32, b: u32, c: u32, x: i64, y: i64, z: i64) -> i64
-    requires { ((a + b + c) * unsigned_abs x ≤ 2 ^ 60) × (((a + b + c) * unsigned_abs y ≤ 2 ^ 60) × ((a + b + c) * unsigned_abs z ≤ 2 ^ 60)) }
-    ensures { result ≡ (pos a *ℤ x) +ℤ ((pos b *ℤ y) +ℤ (pos c *ℤ z)) }
-{
-    a as i64 * x + (b as i64 * y + c as i64 * z)
-}
-
 /// Puts the profile at the front of `work`.
 pub(crate) fn begin(profile: &[i64], work: &mut [i64])
     requires { length profile.now ≤ length work.old }
@@ -102,35 +75,39 @@ pub(crate) fn begin(profile: &[i64], work: &mut [i64])
     work[0..profile.len()].copy_from_slice(profile);
 }
 
-/// Lays two weights on the first `count` samples, in place: a place is written once it has been read for the last time.
-fn lay_pair(a: u32, b: u32, work: &mut [i64], count: usize)
-    requires some { 2 ≤ count }
-    requires room { count ≤ length work.old }
-    requires light { Light (a + b) (take count work.old) }
-    ensures { work.new ≡ laid count (windows (a ∷ b ∷ []) (take count work.old)) work.old }
+/// Weights laid on as many samples. The sums fit, since every sample is light.
+fn weigh(weights: &[u32], samples: &[i64]) -> i64
+    requires long { length weights.now ≡ length samples.now }
+    requires heavy { 1 ≤ scale weights.now }
+    requires light { Light (scale weights.now) samples.now }
+    ensures { result ≡ dot weights.now samples.now }
 {
-    for i in 0..count - 1 {
-        work[i] = blend_two(a, b, work[i], work[i + 1]);
+    let mut total = 0;
+    for (weight, sample) in weights.iter().zip(samples) {
+        total += *weight as i64 * *sample;
     }
-    work[count - 1] = 0;
+    total
 }
 
-/// Lays three weights on the first `count` samples, in place.
-fn lay_triple(a: u32, b: u32, c: u32, work: &mut [i64], count: usize)
-    requires some { 3 ≤ count }
+/// Lays weights on the first `count` samples, in place: a place is written once it has been read for the last time.
+fn lay_weights<const N: usize>(weights: [u32; N], work: &mut [i64], count: usize)
+    requires some { 1 ≤ N }
+    requires long { N ≤ count }
     requires room { count ≤ length work.old }
-    requires light { Light (a + b + c) (take count work.old) }
-    ensures { work.new ≡ laid count (windows (a ∷ b ∷ c ∷ []) (take count work.old)) work.old }
+    requires heavy { 1 ≤ scale weights }
+    requires light { Light (scale weights) (take count work.old) }
+    ensures { work.new ≡ laid count (windows weights.entry (take count work.old)) work.old }
 {
-    for i in 0..count - 2 {
-        work[i] = blend_three(a, b, c, work[i], work[i + 1], work[i + 2]);
+    let left = count - N + 1;
+    for i in 0..left {
+        work[i] = weigh(&weights, &work[i..i + N]);
     }
-    work[count - 2] = 0;
-    work[count - 1] = 0;
+    work[left..count].fill(0);
 }
 
 /// Lays a pass on the level that `work` holds, and answers the shape of the next one.
 pub(crate) fn lay(pass: Pass, last: Drawn, work: &mut [i64]) -> Drawn
+    requires heavy { 1 ≤ scale (weights pass) }
     requires long { length (weights pass) ≤ last.length }
     requires room { last.length ≤ length work.old }
     requires light { Light (scale (weights pass)) (take last.length work.old) }
@@ -140,20 +117,12 @@ pub(crate) fn lay(pass: Pass, last: Drawn, work: &mut [i64]) -> Drawn
     ensures places { work.new ≡ laid last.length (windows (weights pass) (take last.length work.old)) work.old }
 {
     match pass {
-        Pass::Pair(a, b) => {
-            lay_pair(a, b, work, last.length);
-            Drawn {
-                length: last.length - 1,
-                scale: last.scale * (a as u64 + b as u64),
-            }
-        }
-        Pass::Triple(a, b, c) => {
-            lay_triple(a, b, c, work, last.length);
-            Drawn {
-                length: last.length - 2,
-                scale: last.scale * (a as u64 + b as u64 + c as u64),
-            }
-        }
+        Pass::Pair(a, b) => lay_weights([a, b], work, last.length),
+        Pass::Triple(a, b, c) => lay_weights([a, b, c], work, last.length),
+    }
+    Drawn {
+        length: last.length - fewer_by(pass),
+        scale: last.scale * scale_of(pass),
     }
 }
 

@@ -1,5 +1,6 @@
 -- The lemmas of this crate.
 mod Dots
+mod Piling
 mod Places
 mod Sizes
 mod Totals

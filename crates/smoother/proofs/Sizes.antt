@@ -1,19 +1,17 @@
 -- Samples that are small enough to be weighed, and the sums that they give.
-use Rattle.std.proofs.Common.{◌≡◌, ℕ, zero, suc, ◌+◌, ◌/◌, ◌^◌, ◌<◌, ◌≤◌, true, false, ◌&&◌, List, [], ◌∷◌, length, get_or, take, drop, ℤ, pos, negsuc, nat_abs, refl, ap, ◌∙◌, div-lt_iff_lt-mul, le-div_iff_mul-le, arith, w64, SFits}
-use Rattle.std.proofs.lemmas.List.{at_drop_more}
-use Rattle.std.proofs.lemmas.Bool.{le-leb, lt-leb, leb-true, and_parts, and_from}
+use Rattle.std.proofs.Common.{◌≡◌, ℕ, zero, suc, ◌/◌, ◌^◌, ◌<◌, ◌≤◌, true, leb, List, [], ◌∷◌, length, get_or, take, drop, ℤ, pos, negsuc, nat_abs, refl, le-div_iff_mul-le, arith, w64, SFits}
+use Rattle.std.proofs.lemmas.Bool.{leb-true, and_parts, and_from}
+use Rattle.std.specs.List.{list_all}
 use Rattle.smoother.specs.Answers.{weighable}
+use Rattle.smoother.specs.Limits.{quotient_test}
 
 pub fits_size : (z : ℤ) → nat_abs z ≤ 2 ^ 57 → SFits w64 z
 fits_size (pos n) h = record { sfits = omega arith }
 fits_size (negsuc n) h = record { sfits = omega arith }
 
 -- ---- the test of size
-pub weighable_more : (s : ℕ) (xs : List ℤ) (i : ℕ) → 1 ≤ s → i < length xs → nat_abs (get_or xs i (pos 0)) ≤ 2 ^ 57 / s → weighable s (drop i xs) ≡ weighable s (drop (i + 1) xs)
-weighable_more s xs i p l h = at_drop_more (weighable s) xs i (pos 0) l ∙ ap (λ b. b && weighable s (drop (i + 1) xs)) (le-leb _ _ ((le-div_iff_mul-le p).0 h))
-
-pub weighable_not : (s : ℕ) (xs : List ℤ) (i : ℕ) → 1 ≤ s → i < length xs → 2 ^ 57 / s < nat_abs (get_or xs i (pos 0)) → weighable s (drop i xs) ≡ false
-weighable_not s xs i p l h = at_drop_more (weighable s) xs i (pos 0) l ∙ ap (λ b. b && weighable s (drop (i + 1) xs)) (lt-leb _ _ ((div-lt_iff_lt-mul p).0 h))
+pub weighable_is : (s : ℕ) (xs : List ℤ) → 1 ≤ s → list_all (λ x. leb (nat_abs x) (2 ^ 57 / s)) xs ≡ weighable s xs
+weighable_is s xs one = λ j. list_all (λ x. quotient_test (nat_abs x) s (2 ^ 57) one j) xs
 
 pub weighable_at : (s : ℕ) (xs : List ℤ) (i : ℕ) → 1 ≤ s → i < length xs → weighable s xs ≡ true → nat_abs (get_or xs i (pos 0)) ≤ 2 ^ 57 / s
 weighable_at s [] i p l h = absurd (omega arith)

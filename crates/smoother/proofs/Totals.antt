@@ -1,18 +1,19 @@
 -- Sums over taps, part by part.
-use Rattle.std.proofs.Common.{◌≡◌, ℕ, zero, suc, ◌+◌, ◌-◌, ◌*◌, ◌^◌, ◌<◌, ◌≤◌, List, [], ◌∷◌, ◌++◌, length, get_or, take, drop, set, sym, ap, ◌∙◌, ap₂, arith}
-use Rattle.std.proofs.lemmas.List.{at_drop_more, at_drop_all, length-take-le, take_all, take_more, take_more_set}
+use Rattle.std.proofs.Common.{◌≡◌, ℕ, zero, suc, ◌+◌, ◌-◌, ◌*◌, ◌^◌, ◌<◌, ◌≤◌, List, [], ◌∷◌, ◌++◌, length, get_or, take, drop, refl, sym, ap, ◌∙◌, ap₂, arith}
+use Rattle.std.specs.List.{sum}
+use Rattle.std.proofs.lemmas.List.{at_drop_more, take_more}
+use Rattle.std.proofs.lemmas.List.Sums.{sum_by-cons}
 use Rattle.scale_space.specs.Taps.{scale, conv, sum_to}
-use Rattle.scale_space.proofs.Conv.{conv_tap, conv_scale, length_conv}
-use Rattle.smoother.specs.TapLists.{shown}
-use Rattle.smoother.specs.declared.tap_lists.TapList.{TapList}
+use Rattle.scale_space.proofs.Conv.{conv_tap, conv_scale}
 
 pub scale_more : (ts : List ℕ) (i : ℕ) → i < length ts → scale (drop i ts) ≡ get_or ts i 0 + scale (drop (i + 1) ts)
 unfolding scale
 scale_more ts i l = at_drop_more scale ts i 0 l
 
-pub scale_none : (ts : List ℕ) (i : ℕ) → length ts ≤ i → scale (drop i ts) ≡ 0
+pub scale_sum : (ts : List ℕ) → sum ts ≡ scale ts
 unfolding scale
-scale_none ts i l = at_drop_all scale ts i l
+scale_sum [] = refl
+scale_sum (t ∷ ts) = sum_by-cons (λ t. t) t ts ∙ ap (λ n. t + n) (scale_sum ts)
 
 pub tap_most : (ts : List ℕ) (j : ℕ) → get_or ts j 0 ≤ scale ts
 unfolding scale
@@ -49,13 +50,5 @@ part_all p q j i total e h =
     h ∙ ap (λ k. sum_to k (part p q j)) n ∙ sym (conv_tap p q j)
 
 -- ---- a pile, tap by tap
-pub front_more : (items ts : List ℕ) (i t : ℕ) → i < length items → i < length ts → take i items ≡ take i ts → t ≡ get_or ts i 0 → take (i + 1) (set items i t) ≡ take (i + 1) ts
-front_more items ts i t l m e h = take_more_set items i t l ∙ ap₂ (λ us u. us ++ u ∷ []) e h ∙ sym (take_more ts i 0 m)
-
-pub front_all : (p q items : List ℕ) (i n : ℕ) → 1 ≤ length p → 1 ≤ length q → n ≡ length p + length q - 1 → i ≡ n → take i items ≡ take i (conv p q) → take n items ≡ conv p q
-front_all p q items i n h k e f t =
-    ap (λ m. take m items) (sym f) ∙ t ∙ take_all i (conv p q) (omega (arith, length_conv p q h k))
-
--- ---- tap lists
-pub shown_length : (t : TapList) → length (shown t) ≡ t.len
-shown_length t = length-take-le t.len t.items (omega (arith, t.full, t.short))
+pub piled_more : (ts qs : List ℕ) (i t : ℕ) → i < length qs → ts ≡ take i qs → t ≡ get_or qs i 0 → ts ++ t ∷ [] ≡ take (i + 1) qs
+piled_more ts qs i t l h e = ap₂ (λ us u. us ++ u ∷ []) h e ∙ sym (take_more qs i 0 l)

@@ -1,13 +1,13 @@
 -- What weighing and applying answer.
-use Rattle.std.specs.Prelude.{ℕ, ◌+◌, ◌-◌, ◌*◌, ◌^◌, Bool, true, cond, ◌&&◌, List, [], ◌∷◌, length, ℤ, Ok, Err, Result, ◌==◌, nat_le, nat_lt, unsigned_abs}
+use Rattle.std.specs.Prelude.{ℕ, ◌+◌, ◌-◌, ◌*◌, ◌^◌, Bool, cond, List, length, ℤ, Ok, Err, Result, ◌==◌, nat_le, nat_lt, unsigned_abs}
+use Rattle.std.specs.List.{list_all}
 use Rattle.samples.specs.declared.refusals.Refusal.{Refusal}
 use Rattle.samples.specs.declared.refusals.Refusal.TheVariants.{TooFewSamples, BufferTooShort, WindowLength, SampleTooLarge}
 use Rattle.scale_space.specs.Taps.{dot, scale}
 
 -- no sample's size, times the scale, is above 2^57
 abbrev pub weighable : ℕ → List ℤ → Bool
-weighable s [] = true
-weighable s (x ∷ xs) = nat_le (unsigned_abs x * s) (2 ^ 57) && weighable s xs
+weighable s xs = list_all (λ x. nat_le (unsigned_abs x * s) (2 ^ 57)) xs
 
 -- one window
 abbrev pub weighing : List ℕ → List ℤ → Result ℤ Refusal

@@ -1,6 +1,6 @@
 -- The limits of a pile, and the laws of what keeps them.
-use Rattle.std.specs.Prelude.{◌≡◌, ℕ, ◌+◌, ◌-◌, ◌*◌, ◌/◌, ◌^◌, ◌<◌, ◌≤◌, true, ◌&&◌, leb, ◌⊎◌, List, [], ◌∷◌, length, ℤ, pos, ◌*ℤ◌, nat_le}
-use Rattle.std.proofs.Common.{sym, ap, subst, ◌∙◌, inl, inr, le-div_iff_mul-le, div-lt_iff_lt-mul, le_refl, mul-le-mul_left, arith}
+use Rattle.std.specs.Prelude.{◌≡◌, ℕ, ◌+◌, ◌-◌, ◌*◌, ◌/◌, ◌^◌, ◌<◌, ◌≤◌, true, ◌&&◌, leb, ◌⊎◌, List, [], ◌∷◌, length, ℤ, pos, ◌*ℤ◌}
+use Rattle.std.proofs.Common.{sym, subst, ◌∙◌, inl, inr, le-div_iff_mul-le, div-lt_iff_lt-mul, le_refl, mul-le-mul_left, arith}
 use Rattle.std.proofs.lemmas.Int.{ints}
 use Rattle.std.proofs.Math.IntN.{+ℤ_idr}
 use Rattle.std.proofs.lemmas.Bool.{le-leb, lt-leb, leb-true, cases_lt, cond_both, and_parts}
@@ -24,15 +24,12 @@ pub diminishing_one : Diminishing (1 ∷ [])
 diminishing_one xs = subst (λ ys. changes ys ≤ changes xs) (sym (windows_one xs)) (le_refl (changes xs))
 
 -- ---- the tests
-pub scales_test : (p q : List ℕ) (a b : ℕ) → a ≡ scale p → b ≡ scale q → 1 ≤ scale q → nat_le a (2 ^ 40 / b) ≡ scales_fit p q
-scales_test p q a b e f one = by (cases_lt (2 ^ 40 / scale q) (scale p))
+pub quotient_test : (a b n : ℕ) → 1 ≤ b → leb a (n / b) ≡ leb (a * b) n
+quotient_test a b n one = by (cases_lt (n / b) a)
   where
-    same : leb a (2 ^ 40 / b) ≡ nat_le (scale p) (2 ^ 40 / scale q)
-    same = ap (λ n. leb n (2 ^ 40 / b)) e ∙ ap (λ n. leb (scale p) (2 ^ 40 / n)) f
-
-    by : (2 ^ 40 / scale q < scale p) ⊎ (scale p ≤ 2 ^ 40 / scale q) → nat_le a (2 ^ 40 / b) ≡ scales_fit p q
-    by (inl h) = same ∙ lt-leb _ _ h ∙ sym (lt-leb _ _ ((div-lt_iff_lt-mul one).0 h))
-    by (inr h) = same ∙ le-leb _ _ h ∙ sym (le-leb _ _ ((le-div_iff_mul-le one).0 h))
+    by : (n / b < a) ⊎ (a ≤ n / b) → leb a (n / b) ≡ leb (a * b) n
+    by (inl h) = lt-leb _ _ h ∙ sym (lt-leb _ _ ((div-lt_iff_lt-mul one).0 h))
+    by (inr h) = le-leb _ _ h ∙ sym (le-leb _ _ ((le-div_iff_mul-le one).0 h))
 
 scales_within : (p q : List ℕ) → scales_fit p q ≡ true → scale p * scale q ≤ 2 ^ 40
 scales_within p q e = leb-true (scale p * scale q) (2 ^ 40) e

@@ -1,35 +1,36 @@
 //! Any smoother, laid on every window of the samples.
-ghost use Rattle.std.specs.Prelude.{◌≡◌, ◌^◌, ◌≤◌, length};
+ghost use Rattle.std.specs.Prelude.{◌≡◌, ◌≤◌, length};
 ghost use Rattle.scale_space.specs.Taps.{windows, scale};
 ghost use Rattle.scale_space.specs.Levels.{Smooths};
 ghost use Rattle.samples.specs.Answers.{written};
+ghost use Rattle.smoother.specs.TapLists.{shown};
 ghost use Rattle.smoother.specs.Answers.{applied};
 
 use crate::interface::Smoother;
-use crate::sums::{dot, sum};
+use crate::tap_lists::TapList;
 use crate::weighing::all_weighable;
 use samples::refusals::Refusal;
 
 /// Lays taps on every window. All samples are checked before the first place is written.
-fn lay(taps: &[u64], samples: &[i64], out: &mut [i64]) -> Result<usize, Refusal>
-    requires some { 1 ≤ length taps.now }
-    requires heavy { 1 ≤ scale taps.now }
-    requires light { scale taps.now ≤ 2 ^ 40 }
-    ensures answer { result ≡ applied taps.now samples.now (length out.old) }
-    ensures places { out.new ≡ written result (windows taps.now samples.now) out.old }
+fn lay(taps: &TapList, samples: &[i64], out: &mut [i64]) -> Result<usize, Refusal>
+    requires some { 1 ≤ length (shown taps.now) }
+    requires heavy { 1 ≤ scale (shown taps.now) }
+    ensures answer { result ≡ applied (shown taps.now) samples.now (length out.old) }
+    ensures places { out.new ≡ written result (windows (shown taps.now) samples.now) out.old }
 {
-    if samples.len() < taps.len() {
+    let width = taps.as_slice().len();
+    if samples.len() < width {
         return Err(Refusal::TooFewSamples);
     }
-    let count = samples.len() - taps.len() + 1;
+    let count = samples.len() - width + 1;
     if out.len() < count {
         return Err(Refusal::BufferTooShort);
     }
-    if !all_weighable(samples, sum(taps)) {
+    if !all_weighable(samples, taps.sum()) {
         return Err(Refusal::SampleTooLarge);
     }
     for i in 0..count {
-        out[i] = dot(taps, &samples[i..i + taps.len()]);
+        out[i] = taps.dot(&samples[i..i + width]);
     }
     Ok(count)
 }
@@ -43,6 +44,5 @@ pub fn apply<S: Smoother>(s: &S, samples: &[i64], out: &mut [i64]) -> Result<usi
     ensures places { out.new ≡ written result (windows (S.taps s.now) samples.now) out.old }
     ensures calm { Smooths (S.taps s.now) }
 {
-    let taps = s.show();
-    lay(taps.as_slice(), samples, out)
+    lay(&s.show(), samples, out)
 }

@@ -6,7 +6,7 @@ ghost use Rattle.smoother.specs.TapLists.{shown};
 ghost use Rattle.smoother.specs.Answers.{weighing};
 
 use crate::tap_lists::TapList;
-use crate::weighing;
+use crate::weighing::weigh;
 use samples::refusals::Refusal;
 
 /// A smoother shows its taps, and all else follows from them. A kind writes `show` alone: were it to weigh by asking the
@@ -37,8 +37,7 @@ pub trait Smoother {
     fn weigh(&self, samples: &[i64]) -> Result<i64, Refusal>
         ensures { result ≡ weighing (taps self.now) samples.now }
     {
-        let taps = self.show();
-        weighing::weigh(taps.as_slice(), samples)
+        weigh(&self.show(), samples)
     }
 
     ghost some: { (s : Self) → 1 ≤ length (taps s) };

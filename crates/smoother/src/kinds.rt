@@ -65,22 +65,14 @@ impl Smoother for Triple {
 }
 
 /// The taps of a schedule: its passes' weights piled in order, and the one tap 1 where none stands. Laid on a profile they
-/// give the last level that the schedule draws.
+/// give the last level that the schedule draws. From the last pass to the first, each is piled before those behind it.
 pub fn taps_of(schedule: &Schedule) -> TapList
     ensures piled { shown result ≡ taps (passes schedule.now) }
     ensures draws { (hs : List ℤ) → level (passes schedule.now) hs ≡ weighed (taps (passes schedule.now)) (ground hs) }
 {
-    pile_all(schedule)
-}
-
-/// `taps_of`, less what it says of levels. From the last pass to the first, each is piled before those behind it.
-fn pile_all(schedule: &Schedule) -> TapList
-    ensures { shown result ≡ taps (passes schedule.now) }
-{
-    let passes = schedule.as_slice();
     let mut taps = TapList::one();
-    for i in (0..passes.len()).rev() {
-        taps = weights_of(passes[i]).pile(&taps);
+    for pass in schedule.as_slice().iter().rev() {
+        taps = weights_of(*pass).pile(&taps);
     }
     taps
 }

@@ -1,12 +1,15 @@
 //! Taps at run time: a list of at most 49, held inline so that showing them cannot fail for want of memory.
-ghost use Rattle.std.specs.Prelude.{◌≡◌, ◌≤◌, length};
+ghost use Rattle.std.specs.Prelude.{◌^◌, ◌≤◌};
+ghost use Rattle.scale_space.specs.Taps.{scale};
+ghost use Rattle.fixed_list.specs.Listed.{listed};
+
+use fixed_list::FixedList;
 
 pub mod building;
 
+/// Taps whose sum no smoother passes.
 #[derive(Clone, Copy)]
 pub struct TapList {
-    items: [u64; 49],
-    len: usize,
-    ghost full: { length items ≡ 49 },
-    ghost short: { len ≤ 49 },
+    taps: FixedList<u64, 49>,
+    ghost light: { scale (listed taps) ≤ 2 ^ 40 },
 }

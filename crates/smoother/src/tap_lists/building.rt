@@ -1,11 +1,13 @@
 //! How tap lists are made, read and piled.
-ghost use Rattle.std.specs.Prelude.{◌≡◌, ◌+◌, ◌*◌, ◌^◌, ◌≤◌, [], ◌∷◌, length};
-ghost use Rattle.scale_space.specs.Taps.{scale, conv};
+ghost use Rattle.std.specs.Prelude.{◌≡◌, ◌+◌, ◌*◌, ◌^◌, ◌≤◌, true, [], ◌∷◌, length};
+ghost use Rattle.scale_space.specs.Taps.{dot, scale, conv};
+ghost use Rattle.smoother.specs.Answers.{weighable};
 ghost use Rattle.smoother.specs.TapLists.{shown};
 ghost use Rattle.smoother.specs.Piled.{scales_fit, reaches_fit};
 
-use crate::sums;
+use crate::sums::tap;
 use crate::tap_lists::TapList;
+use fixed_list::FixedList;
 use samples::limits::LARGEST_SCALE;
 
 /// The longest reach of a smoother.
@@ -16,52 +18,64 @@ impl TapList {
     pub fn one() -> TapList
         ensures { shown result ≡ 1 ∷ [] }
     {
-        let mut items = [0; 49];
-        items[0] = 1;
-        TapList { items, len: 1 }
+        TapList::of(&[1])
     }
 
     /// Two taps.
     pub fn two(a: u32, b: u32) -> TapList
         ensures { shown result ≡ a ∷ b ∷ [] }
     {
-        let mut items = [0; 49];
-        items[0] = a as u64;
-        items[1] = b as u64;
-        TapList { items, len: 2 }
+        TapList::of(&[a as u64, b as u64])
     }
 
     /// Three taps.
     pub fn three(a: u32, b: u32, c: u32) -> TapList
         ensures { shown result ≡ a ∷ b ∷ c ∷ [] }
     {
-        let mut items = [0; 49];
-        items[0] = a as u64;
-        items[1] = b as u64;
-        items[2] = c as u64;
-        TapList { items, len: 3 }
+        TapList::of(&[a as u64, b as u64, c as u64])
+    }
+
+    fn of(taps: &[u64]) -> TapList
+        requires short { length taps.now ≤ 49 }
+        requires light { scale taps.now ≤ 2 ^ 40 }
+        ensures { shown result ≡ taps.now }
+    {
+        let mut list = FixedList::new(0);
+        list.extend_from_slice(taps);
+        TapList { taps: list }
     }
 
     /// The taps, in order.
     pub fn as_slice(&self) -> &[u64]
         ensures { result.now ≡ shown self.now }
     {
-        &self.items[..self.len]
+        self.taps.as_slice()
     }
 
     /// The sum of the taps.
     pub(crate) fn sum(&self) -> u64
-        requires { scale (shown self.now) ≤ 2 ^ 40 }
         ensures { result ≡ scale (shown self.now) }
     {
-        sums::sum(self.as_slice())
+        self.as_slice().iter().sum()
+    }
+
+    /// The taps laid on as many samples. The sums fit, since every sample is small at this scale.
+    pub(crate) fn dot(&self, samples: &[i64]) -> i64
+        requires long { length (shown self.now) ≡ length samples.now }
+        requires heavy { 1 ≤ scale (shown self.now) }
+        requires small { weighable (scale (shown self.now)) samples.now ≡ true }
+        ensures { result ≡ dot (shown self.now) samples.now }
+    {
+        let mut total = 0;
+        for (tap, sample) in self.as_slice().iter().zip(samples) {
+            total += *tap as i64 * *sample;
+        }
+        total
     }
 
     /// Whether the scale of the two piled is within the limit.
     pub(crate) fn scales_fit(&self, other: &TapList) -> bool
-        requires light { scale (shown self.now) ≤ 2 ^ 40 }
-        requires heavy { 1 ≤ scale (shown other.now) }
-        requires lighter { scale (shown other.now) ≤ 2 ^ 40 }
+        requires { 1 ≤ scale (shown other.now) }
         ensures { result ≡ scales_fit (shown self.now) (shown other.now) }
     {
         self.sum() <= LARGEST_SCALE / other.sum()
@@ -72,7 +86,7 @@ impl TapList {
         requires { (1 ≤ length (shown self.now)) × (1 ≤ length (shown other.now)) }
         ensures { result ≡ reaches_fit (shown self.now) (shown other.now) }
     {
-        (self.len - 1) + (other.len - 1) <= LONGEST_REACH
+        (self.taps.len() - 1) + (other.taps.len() - 1) <= LONGEST_REACH
     }
 
     /// These taps piled with others: these first, then the others.
@@ -82,11 +96,10 @@ impl TapList {
         requires light { scale (shown self.now) * scale (shown other.now) ≤ 2 ^ 40 }
         ensures { shown result ≡ conv (shown self.now) (shown other.now) }
     {
-        let len = self.len + other.len - 1;
-        let mut items = [0; 49];
-        for i in 0..len {
-            items[i] = sums::tap(self.as_slice(), other.as_slice(), i);
+        let mut taps = FixedList::new(0);
+        for place in 0..self.taps.len() + other.taps.len() - 1 {
+            taps.push(tap(self.as_slice(), other.as_slice(), place));
         }
-        TapList { items, len }
+        TapList { taps }
     }
 }

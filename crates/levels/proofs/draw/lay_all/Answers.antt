@@ -5,7 +5,7 @@ use Rattle.scale_space.specs.Taps.{scale}
 use Rattle.scale_space.specs.Passes.{weights, level}
 use Rattle.levels.specs.Drawing.{shape, laid}
 use Rattle.levels.proofs.Laying.{laid_none}
-use Rattle.levels.proofs.Stepping.{Ready, first_shape, pass_at, step_long, step_room, step_bounded, step_light, step_shape, step_places}
+use Rattle.levels.proofs.Stepping.{Ready, first_shape, pass_at, step_heavy, step_long, step_room, step_bounded, step_light, step_shape, step_places}
 use Rattle.levels.proofs.draw.lay_all.Goals as goal
 
 pub loop-pass-init : goal.loop-pass-init
@@ -21,6 +21,7 @@ lay-last-requires c =
     let e = c.loop-pass.invariant.0 in
     let ready : Ready ps n old = record { proper = c.requires.proper; bounded = c.requires.bounded; room = c.requires.room; long = c.requires.long; lawful = c.requires.lawful } in
     record {
+      heavy = step_heavy ps n old ready i at;
       long = omega (arith, ap (λ d. d.length) e, step_long ps n old ready i at);
       room = omega (arith, ap (λ d. d.length) e, step_room ps n old ready i at);
       light = step_light ps n old ready i at c.loop-pass.last c.loop-pass.work e c.loop-pass.invariant.1;

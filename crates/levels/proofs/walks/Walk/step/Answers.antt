@@ -1,6 +1,6 @@
 -- The pass ahead can be laid, and what it leaves is sound and the next level.
 use Rattle.std.proofs.Common.{◌≡◌, true, length, refl, arith, rules}
-use Rattle.levels.proofs.Walking.{pass_long, pass_bounded, pass_light, pass_sound, pass_stepped, climbs}
+use Rattle.levels.proofs.Walking.{pass_heavy, pass_long, pass_bounded, pass_light, pass_sound, pass_stepped, climbs}
 use Rattle.levels.proofs.walks.Walk.step.Goals as goal
 
 pub lay-to-requires : goal.lay-to-requires
@@ -9,7 +9,7 @@ lay-to-requires c =
     let more = c.if-self.false in
     let ps = c.as_slice.result.now in
     let same = c.as_slice.ensures.value in
-    record { long = pass_long w more ps same; room = omega (arith, w.short, w.full); light = pass_light w more ps same; bounded = pass_bounded w more ps same }
+    record { heavy = pass_heavy w more ps same; long = pass_long w more ps same; room = omega (arith, w.short, w.full); light = pass_light w more ps same; bounded = pass_bounded w more ps same }
 
 pub invariant_of-self : goal.invariant_of-self
 invariant_of-self c =
