@@ -19,7 +19,7 @@ same_line : (k : ℕ) (w : Pass) → pass_line k w ≡ pass_line 0 w
 same_line k (Pair a b) = refl
 same_line k (Triple a b c) = refl
 
-joined_lines : (k : ℕ) (ws : List Pass) → lines_of pass_line k ws ≡ flat_map line_of ws
+pub joined_lines : (k : ℕ) (ws : List Pass) → lines_of pass_line k ws ≡ flat_map line_of ws
 joined_lines k [] = refl
 joined_lines k (w ∷ ws) = (λ i. same_line k w i ++ (10 ∷ joined_lines (k + 1) ws i)) ∙ sym (append_assoc (pass_line 0 w) (10 ∷ []) (flat_map line_of ws))
 

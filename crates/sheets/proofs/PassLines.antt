@@ -21,6 +21,7 @@ use Rattle.sheets.specs.Numbers.{capped, natural}
 use Rattle.sheets.specs.Lines.{cut}
 use Rattle.sheets.specs.ScheduleSheets.{two, three, counts, weighed, pass_of, told, joining, with_pass, capped_pass}
 use Rattle.sheets.proofs.Cuts.{cut_some}
+use Rattle.std.specs.Result.{IsOk, IsErr}
 use Rattle.sheets.proofs.Basics.{clash}
 
 -- ---- what was added
@@ -182,13 +183,16 @@ module _ (l : List ℕ) (k : ℕ) (ps qs : List Pass) where
       let f = from_ok (pass_of (cut 44 l)) (Malformed (k + 2)) p e in
       ap (joining k ps) f.1 ∙ ap (λ m. told k (added ps m).answer (added ps m).after) (sym (made_capped f.0) ∙ ap made (sym f.2))
 
-  pub line_added : (p : Pass) (n : ℕ) → Ok p ≡ PassLine l (k + 2) → After p (Ok n) → (with_pass k ps (cut 44 l) ≡ Ok qs) × (n ≡ length ps + 1) × (n ≡ length qs) × (n ≤ 24)
-  line_added p n e a =
+  -- the line gives a pass, and the call on it ended with r
+  pub line_added : (p : Pass) (r : Result ℕ Refusal) → IsOk r → Ok p ≡ PassLine l (k + 2) → k ≡ length ps → After p r → (with_pass k ps (cut 44 l) ≡ Ok qs) × (length qs ≡ k + 1)
+  line_added p (Ok n) t e h a =
       let g = added_is ps (made p) n (sym a.answer) in
-      (is_joining p e ∙ (λ i. told k (sym a.answer i) (sym a.after i)), g.0, g.1 ∙ ap length (sym a.after), g.2)
+      (is_joining p e ∙ (λ i. told k (sym a.answer i) (sym a.after i)), omega (arith, g.0, g.1, ap length a.after))
+  line_added p (Err why) t e h a = clash cc
 
-  pub line_refused : (p : Pass) (why : Refusal) → Ok p ≡ PassLine l (k + 2) → After p (Err why) → with_pass k ps (cut 44 l) ≡ Err (Refused (k + 2))
-  line_refused p why e a = is_joining p e ∙ (λ i. told k (sym a.answer i) (sym a.after i))
+  pub line_refused : (p : Pass) (r : Result ℕ Refusal) → IsErr r → Ok p ≡ PassLine l (k + 2) → After p r → with_pass k ps (cut 44 l) ≡ Err (Refused (k + 2))
+  line_refused p (Ok n) t e a = clash cc
+  line_refused p (Err why) t e a = is_joining p e ∙ (λ i. told k (sym a.answer i) (sym a.after i))
 
 pub line_malformed : (l : List ℕ) (k : ℕ) (ps : List Pass) (y : SheetFault) → Err y ≡ PassLine l (k + 2) → with_pass k ps (cut 44 l) ≡ Err y
 line_malformed l k ps y e = go (pass_of (cut 44 l)) e
