@@ -1,32 +1,21 @@
 -- Texts put one before another.
 use Rattle.std.proofs.Common.{◌≡◌, ℕ, ◌+◌, ◌-◌, ◌<◌, ◌≤◌, leb, List, ◌++◌, length, take, drop, Ok, Err, Result, sym, refl, ap, ◌∙◌, append_assoc, arith}
 use borrow.Rule.Slice.PartMut.{put_mid, post_of}
-use Rattle.std.proofs.lemmas.List.{length-append, length-drop, length-take-le, take-take, take-append-le, drop_at, drop-drop}
+use Rattle.std.proofs.lemmas.List.{length-append, length-drop, length-take-le, take-take, take-append-le, drop_at, drop-drop, take-append-drop}
 use Rattle.std.proofs.lemmas.Bool.{lt-leb, cond-false}
 use Rattle.sheets.specs.declared.faults.SheetFault.{SheetFault}
 use Rattle.sheets.specs.declared.faults.SheetFault.TheVariants.{BufferTooShort}
 use Rattle.sheets.specs.Lines.{answer}
-use Rattle.sheets.specs.Writing.{placed, fitted}
-use Rattle.sheets.proofs.Fitting.{placed_ok, fitted_whole}
 use Rattle.sheets.proofs.Walks.{answer_ok}
 use Rattle.listing.specs.Putting.{Roomy, Put}
 
 module _ (text out : List ℕ) (at : ℕ) (room : Roomy text at out) where
-  -- the end of `&mut out[0..at]` was written
-  pub end_put : (first : ℕ) (field : List ℕ) → Ok first ≡ placed text (take (at - 0) out) → field ≡ fitted text (take (at - 0) out) → Put text at out first (field ++ post_of 0 (at - 0) out)
-  end_put first field e f =
-      let all : at - 0 ≡ at = omega arith in
-      let w = room.within in
-      let long : length (take (at - 0) out) ≡ at = length-take-le (at - 0) out (omega arith) ∙ all in
-      let here : first ≡ at - length text = omega (arith, (placed_ok text (take (at - 0) out) first e).1) in
-      let front : take first (take (at - 0) out) ≡ take (at - length text) out = take-take first (at - 0) out (omega arith) ∙ ap (λ n. take n out) here in
-      record {
-        place = here;
-        bytes =
-            ap (λ l. l ++ post_of 0 (at - 0) out) (fitted_whole text (take (at - 0) out) 0 field f first e)
-            ∙ append_assoc (take first (take (at - 0) out)) text (post_of 0 (at - 0) out)
-            ∙ (λ i. front i ++ (text ++ drop (all i) out));
-      }
+  -- the text was written from `first` on
+  pub ended_put : (first : ℕ) (after : List ℕ) → first + length text ≡ at → drop first after ≡ text ++ drop at out → take first after ≡ take first out → Put text at out first after
+  ended_put first after e back front =
+      let l = room.enough in
+      let here : first ≡ at - length text = omega arith in
+      record { place = here; bytes = sym (take-append-drop first after) ∙ (λ i. front i ++ back i) ∙ ap (λ n. take n out ++ (text ++ drop at out)) here }
 
   -- `out[first..at]` was written
   pub part_put : (field : List ℕ) → field ≡ text → Put text at out (at - length text) (put_mid (at - length text) (at - (at - length text)) out field)

@@ -1,6 +1,6 @@
 //! Why a sheet was not read or written.
-ghost use Rattle.std.specs.Prelude.{◌≡◌};
-ghost use Rattle.sheets.specs.Faults.{fault_number, fault_line};
+ghost use Rattle.std.specs.Prelude.{◌≡◌, Some};
+ghost use Rattle.sheets.specs.Faults.{fault_number, fault_line, fault_words};
 
 use std::error::Error;
 use std::fmt;
@@ -44,6 +44,8 @@ impl SheetFault {
 }
 
 impl fmt::Display for SheetFault {
+    ghost output = { λ fault. Some (fault_words fault) };
+
     fn fmt<W: fmt::Write>(&self, f: &mut fmt::Formatter<W>) -> fmt::Result {
         match self {
             SheetFault::TooLong => write!(f, "too long"),
