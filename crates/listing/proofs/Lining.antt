@@ -1,7 +1,7 @@
 -- Lines one after another: how many bytes they have, and how they are put from the last to the first.
-use Rattle.std.proofs.Common.{◌≡◌, ℕ, zero, suc, ◌+◌, ◌-◌, ◌<◌, ◌≤◌, List, [], ◌∷◌, ◌++◌, length, get_or, take, drop, sym, ap, ◌∙◌, subst, arith}
+use Rattle.std.proofs.Common.{◌≡◌, ℕ, ◌+◌, ◌-◌, ◌<◌, ◌≤◌, List, [], ◌∷◌, ◌++◌, length, get_or, take, drop, sym, ap, ◌∙◌, arith}
 use Rattle.std.specs.List.{flat_map}
-use Rattle.std.proofs.lemmas.List.{length-append, take-append-drop, drop_all, at_drop_more, at_drop_all}
+use Rattle.std.proofs.lemmas.List.{length-append, take-append-drop, at_drop_more, at_drop_all}
 use Rattle.listing.specs.Putting.{Roomy, Put}
 use Rattle.listing.proofs.Puts.{room_next, put_next}
 

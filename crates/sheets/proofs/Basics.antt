@@ -2,7 +2,7 @@
 use Rattle.std.proofs.Common.{◌≡◌, ℕ, Bool, true, false, cond, List, [], ◌∷◌, ◌++◌, Some, None, Ok, Err, refl, arith}
 use Rattle.std.specs.List.{AllByRecursion}
 use Rattle.std.specs.Option.{ok_or}
-use Rattle.std.proofs.Common.{Option, Result, MatchOption, subst}
+use Rattle.std.proofs.Common.{Option, MatchOption, subst}
 use Rattle.sheets.specs.declared.faults.SheetFault.{SheetFault}
 
 pub clash : {P : Type 0} → ◌≡◌ {A = ℕ} 0 1 → P

@@ -1,7 +1,6 @@
 -- The six texts of the line, from the last to the first.
-use Rattle.std.proofs.Common.{w64, SFits, rules, subst}
+use Rattle.std.proofs.Common.{w64, SFits, rules}
 use Rattle.std.proofs.lemmas.Int.{to_z-of_z}
-use Rattle.listing.specs.Putting.{Put}
 use Rattle.listing.proofs.Puts.{put_six}
 use Rattle.listing.proofs.Rows.{line_room, line_put}
 use Rattle.listing.proofs.lines.put_line.Goals as goal

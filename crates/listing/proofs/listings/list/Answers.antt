@@ -1,5 +1,5 @@
 -- The table has a place for each sample, so all turns are found.
-use Rattle.std.proofs.Common.{◌≡◌, ◌++◌, true, map, take, length, Ok, sym, ap, ◌∙◌, subst, arith}
+use Rattle.std.proofs.Common.{◌≡◌, ◌++◌, true, map, take, length, sym, ap, ◌∙◌, subst, arith}
 use Rattle.std.proofs.lemmas.List.{length-map}
 use Rattle.std.specs.List.{flat_map, AllByRecursion}
 use Rattle.levels.specs.Walks.{come_to}

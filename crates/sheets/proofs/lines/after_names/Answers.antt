@@ -1,11 +1,10 @@
 -- The names line.
 use Rattle.std.proofs.Common.{rules}
 use Rattle.std.proofs.lemmas.Slice.Eq.{slice_eq-Decides}
-use Rattle.std.proofs.lemmas.Bool.Decides.{not_from_Decides, Decides-eqb}
-use Rattle.std.proofs.lemmas.Result.{err_from_is_err_and}
+use Rattle.std.proofs.lemmas.Bool.Decides.{Decides-eqb}
 use Rattle.sheets.specs.declared.faults.SheetFault.TheVariants.{WrongNames}
-use Rattle.sheets.proofs.Basics.{found, not_found}
-use Rattle.sheets.proofs.Walks.{opened_one, opened_same, opened_other}
+use Rattle.sheets.proofs.Basics.{found}
+use Rattle.sheets.proofs.Walks.{opened_same}
 use Rattle.sheets.proofs.lines.after_names.Goals as goal
 
 pub returns-then-eq : goal.returns-then-eq

@@ -1,5 +1,5 @@
 -- The value lines, one after another.
-use Rattle.std.proofs.Common.{◌≡◌, ◌+◌, ◌<◌, length, sym, ◌∙◌, arith, rules}
+use Rattle.std.proofs.Common.{◌≡◌, ◌<◌, length, sym, ◌∙◌, arith, rules}
 use Rattle.std.proofs.lemmas.Result.{err_from_is_err_and}
 use Rattle.sheets.proofs.Basics.{found, not_found}
 use Rattle.sheets.proofs.Walks.{walked_more, walked_stop, walked_unended, walked_end}
