@@ -1,5 +1,5 @@
 -- What the call for one level answers, from what was written.
-use Rattle.std.proofs.Common.{◌≡◌, ℕ, Bool, true, false, cond, leb, List, ◌++◌, length, drop, ℤ, Ok, Err, Result, sym, refl, ap, ◌∙◌, ap₂}
+use Rattle.std.proofs.Common.{◌≡◌, ℕ, Bool, true, false, cond, leb, List, ◌++◌, length, drop, ℤ, Ok, Err, Result, MatchResult, sym, refl, ap, ◌∙◌, ap₂}
 use Rattle.scale_space.specs.declared.passes.Pass.{Pass}
 use Rattle.samples.specs.declared.refusals.Refusal.{Refusal}
 use Rattle.levels.specs.declared.walks.Walk.{Walk}
@@ -34,11 +34,16 @@ module _ (a : Result (Unit {0}) Refusal) (drawn : a ≡ Ok tt) (text here : List
   listed_is : listed (Ok tt) here was ≡ listed a text was
   listed_is = ap₂ (λ x y. listed x y was) (sym drawn) same
 
-  pub listed_ok : (n : ℕ) → Ok n ≡ (answer (Ok here) was).0 → Ok n ≡ (listed a text was).0
+  listed_ok : (n : ℕ) → Ok n ≡ (answer (Ok here) was).0 → Ok n ≡ (listed a text was).0
   listed_ok n e = told_ok (leb (length here) (length was)) n e ∙ ap (λ x. x.0) listed_is
 
-  pub listed_err : (x : SheetFault) → Err x ≡ (answer (Ok here) was).0 → Err BufferTooShort ≡ (listed a text was).0
+  listed_err : (x : SheetFault) → Err x ≡ (answer (Ok here) was).0 → Err BufferTooShort ≡ (listed a text was).0
   listed_err x e = told_err (leb (length here) (length was)) x e ∙ ap (λ x. x.0) listed_is
+
+  -- the call's answer, where any fault of the writing tells that the text has no room
+  pub listed_as : (r : Result ℕ SheetFault) (q : Result ℕ ListingFault) → MatchResult r (λ n. q ≡ Ok n) (λ _. q ≡ Err BufferTooShort) → r ≡ (answer (Ok here) was).0 → q ≡ (listed a text was).0
+  listed_as (Ok n) q m e = m ∙ listed_ok n e
+  listed_as (Err x) q m e = m ∙ listed_err x e
 
   pub listed_after : after ≡ (answer (Ok here) was).1 → after ≡ (listed a text was).1
   listed_after e = e ∙ told_same (leb (length here) (length was)) ∙ ap (λ x. x.1) listed_is

@@ -1,6 +1,5 @@
 -- The turns of samples in a table with a place for each sample.
-use Rattle.std.proofs.Common.{◌≡◌, ℕ, ◌-◌, ◌≤◌, true, List, ◌++◌, length, take, drop, ℤ, Ok, Err, Result, sym, ◌∙◌, arith}
-use native.Mathlib.Nat.{sub-zero}
+use Rattle.std.proofs.Common.{◌≡◌, ℕ, ◌≤◌, true, List, ◌++◌, length, take, drop, ℤ, Ok, Err, Result, ap, sym, ◌∙◌, arith}
 use Rattle.std.specs.List.{AllByRecursion}
 use Rattle.std.proofs.ByRecursion.{All-weaker}
 use Rattle.std.proofs.lemmas.List.{take_at}
@@ -31,6 +30,6 @@ module _ (xs : List ℤ) (room : ℕ) (enough : length xs ≤ room) where
         let f : ◌≡◌ {A = Result ℕ Refusal} (Ok count) (Ok (length (turns xs))) = e ∙ all_listed in
         cc
 
-    -- `table[0..count]` as the checker has it
-    pub found_part : (old table : List Turn) → table ≡ turns xs ++ drop count old → take (count - 0) table ≡ turns xs
-    found_part old table w = (λ i. take (sub-zero count i) (w i)) ∙ take_at (turns xs) (drop count old) count (sym found_count)
+    -- `table[..count]` as the checker has it
+    pub found_part : (old table : List Turn) → table ≡ turns xs ++ drop count old → take count table ≡ turns xs
+    found_part old table w = ap (take count) w ∙ take_at (turns xs) (drop count old) count (sym found_count)

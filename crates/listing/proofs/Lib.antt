@@ -6,7 +6,6 @@ pub mod Lining
 pub mod RoundedTurns
 pub mod Turning
 pub mod Finding
-pub mod Telling
 pub mod Answering
 pub mod Bounds
 mod Examples

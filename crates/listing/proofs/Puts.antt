@@ -1,45 +1,9 @@
 -- Texts put one before another.
-use Rattle.std.proofs.Common.{◌≡◌, ℕ, ◌+◌, ◌-◌, ◌<◌, ◌≤◌, leb, List, ◌++◌, length, take, drop, Ok, Err, Result, sym, refl, ap, ◌∙◌, append_assoc, arith}
-use borrow.Rule.Slice.PartMut.{put_mid, post_of}
-use Rattle.std.proofs.lemmas.List.{length-append, length-drop, length-take-le, take-take, take-append-le, drop_at, drop-drop}
-use Rattle.std.proofs.lemmas.Bool.{lt-leb, cond-false}
+use Rattle.std.proofs.Common.{◌≡◌, ℕ, ◌+◌, ◌-◌, ◌≤◌, List, ◌++◌, length, take, drop, Ok, Result, sym, ap, ◌∙◌, append_assoc, arith}
+use Rattle.std.proofs.lemmas.List.{length-append, length-drop, length-take-le, take-take, take-append-le, drop_at}
 use Rattle.sheets.specs.declared.faults.SheetFault.{SheetFault}
-use Rattle.sheets.specs.declared.faults.SheetFault.TheVariants.{BufferTooShort}
 use Rattle.sheets.specs.Lines.{answer}
-use Rattle.sheets.specs.Writing.{placed, fitted}
-use Rattle.sheets.proofs.Fitting.{placed_ok, fitted_whole}
-use Rattle.sheets.proofs.Walks.{answer_ok}
 use Rattle.listing.specs.Putting.{Roomy, Put}
-
-module _ (text out : List ℕ) (at : ℕ) (room : Roomy text at out) where
-  -- the end of `&mut out[0..at]` was written
-  pub end_put : (first : ℕ) (field : List ℕ) → Ok first ≡ placed text (take (at - 0) out) → field ≡ fitted text (take (at - 0) out) → Put text at out first (field ++ post_of 0 (at - 0) out)
-  end_put first field e f =
-      let all : at - 0 ≡ at = omega arith in
-      let w = room.within in
-      let long : length (take (at - 0) out) ≡ at = length-take-le (at - 0) out (omega arith) ∙ all in
-      let here : first ≡ at - length text = omega (arith, (placed_ok text (take (at - 0) out) first e).1) in
-      let front : take first (take (at - 0) out) ≡ take (at - length text) out = take-take first (at - 0) out (omega arith) ∙ ap (λ n. take n out) here in
-      record {
-        place = here;
-        bytes =
-            ap (λ l. l ++ post_of 0 (at - 0) out) (fitted_whole text (take (at - 0) out) 0 field f first e)
-            ∙ append_assoc (take first (take (at - 0) out)) text (post_of 0 (at - 0) out)
-            ∙ (λ i. front i ++ (text ++ drop (all i) out));
-      }
-
-  -- `out[first..at]` was written
-  pub part_put : (field : List ℕ) → field ≡ text → Put text at out (at - length text) (put_mid (at - length text) (at - (at - length text)) out field)
-  part_put field e =
-      let first = at - length text in
-      let l = room.enough in
-      let back : first + (at - first) ≡ at = omega arith in
-      record {
-        place = refl;
-        bytes =
-            ap (λ l. take first out ++ (l ++ drop (at - first) (drop first out))) e
-            ∙ ap (λ l. take first out ++ (text ++ l)) (drop-drop (at - first) first out ∙ ap (λ n. drop n out) back);
-      }
 
 -- ---- a text before another, b
 
@@ -101,40 +65,23 @@ module _ {a b c d e f : List ℕ} {at : ℕ} {out : List ℕ} (room : RoomOfSix 
   room_e : Roomy (e ++ f) at out
   room_e = room_back d _ room_d
 
-  pub room_first : Roomy f at out
-  room_first = room_back e f room_e
-
   module _ {n₁ : ℕ} {o₁ : List ℕ} (p₁ : Put f at out n₁ o₁) where
-    pub room_second : Roomy e n₁ o₁
-    room_second = room_next e f room_e p₁
 
     module _ {n₂ : ℕ} {o₂ : List ℕ} (p₂ : Put e n₁ o₁ n₂ o₂) where
       two : Put (e ++ f) at out n₂ o₂
       two = put_next e f room_e p₁ p₂
 
-      pub room_third : Roomy d n₂ o₂
-      room_third = room_next d _ room_d two
-
       module _ {n₃ : ℕ} {o₃ : List ℕ} (p₃ : Put d n₂ o₂ n₃ o₃) where
         three : Put (d ++ (e ++ f)) at out n₃ o₃
         three = put_next d _ room_d two p₃
-
-        pub room_fourth : Roomy c n₃ o₃
-        room_fourth = room_next c _ room_c three
 
         module _ {n₄ : ℕ} {o₄ : List ℕ} (p₄ : Put c n₃ o₃ n₄ o₄) where
           four : Put (c ++ (d ++ (e ++ f))) at out n₄ o₄
           four = put_next c _ room_c three p₄
 
-          pub room_fifth : Roomy b n₄ o₄
-          room_fifth = room_next b _ room_b four
-
           module _ {n₅ : ℕ} {o₅ : List ℕ} (p₅ : Put b n₄ o₄ n₅ o₅) where
             five : Put (b ++ (c ++ (d ++ (e ++ f)))) at out n₅ o₅
             five = put_next b _ room_b four p₅
-
-            pub room_sixth : Roomy a n₅ o₅
-            room_sixth = room_next a _ room.all five
 
             pub put_six : {n₆ : ℕ} {o₆ : List ℕ} → Put a n₅ o₅ n₆ o₆ → Put (six a b c d e f) at out n₆ o₆
             put_six p₆ = put_next a _ room.all five p₆
@@ -147,17 +94,3 @@ pub record Answered (text out : List ℕ) (r : Result ℕ SheetFault) (after : L
 
 pub answered_as : (a b out : List ℕ) {r : Result ℕ SheetFault} {after : List ℕ} → a ≡ b → Answered a out r after → Answered b out r after
 answered_as a b out e p = record { answers = p.answers ∙ ap (λ t. (answer (Ok t) out).0) e; writes = p.writes ∙ ap (λ t. (answer (Ok t) out).1) e }
-
-module _ (text out : List ℕ) (size : ℕ) (is : size ≡ length text) where
-  -- text fills the first places
-  pub answered_put : {first : ℕ} {after : List ℕ} → size ≤ length out → Put text size out first after → Answered text out (Ok size) after
-  answered_put {first} {after} room p =
-      let a = answer_ok (Ok text) text out size refl (sym is) room in
-      let none : size - length text ≡ 0 = omega arith in
-      record { answers = a.0; writes = p.bytes ∙ ap (λ n. take n out ++ (text ++ drop size out)) none ∙ a.1 }
-
-  -- text is too long
-  pub answered_short : length out < size → Answered text out (Err BufferTooShort) out
-  answered_short l =
-      let e : answer (Ok text) out ≡ (Err BufferTooShort, out) = cond-false (leb (length text) (length out)) _ _ (lt-leb (length text) (length out) (omega arith)) in
-      record { answers = ap (λ x. x.0) (sym e); writes = ap (λ x. x.1) (sym e) }

@@ -1,21 +1,27 @@
 -- How many bytes a number takes.
-use Rattle.std.proofs.Common.{◌≡◌, ℕ, ◌+◌, ◌/◌, ◌%◌, ◌^◌, ◌<◌, ◌≤◌, length, decimal, ap, ◌∙◌, arith}
-use Rattle.std.proofs.lemmas.Fmt.{decimal_digit, decimal_step, length-decimal-le}
+use Rattle.std.proofs.Common.{◌≡◌, ℕ, zero, suc, ◌+◌, ◌*◌, ◌/◌, ◌%◌, ◌^◌, ◌<◌, ◌≤◌, Some, None, Option, MatchOption, length, decimal, ap, sym, ◌∙◌, add-one, arith}
+use native.Mathlib.Nat.{pow-succ', one-le-pow}
+use Rattle.std.proofs.lemmas.Fmt.{decimal_digit, decimal_step, decimal_nonempty, length-decimal-le}
 use Rattle.std.proofs.lemmas.List.{length_push}
+use Rattle.std.specs.Option.{IfNone, IfSome}
 
--- the digits of n that are counted, and those of what is left, of which one was counted before
-pub record Counted (n rest digits : ℕ) : Type 0 where
-  pub fits : rest < 2 ^ 64
-  pub sum : digits + length (decimal rest) ≡ length (decimal n) + 1
+more_digits : (n : ℕ) → 10 ≤ n → n < 2 ^ 64 → length (decimal n) ≡ length (decimal (n / 10)) + 1
+more_digits n l f = ap length (decimal_step n l f) ∙ length_push (decimal (n / 10)) (48 + n % 10)
 
-pub width_most : (n : ℕ) → n < 2 ^ 64 → length (decimal n) ≤ 20
-width_most n f = length-decimal-le 20 n (omega arith) (omega arith) f
+width_least : (k n : ℕ) → 10 ^ k ≤ n → n < 2 ^ 64 → k < length (decimal n)
+width_least zero n l f = decimal_nonempty n f
+width_least (suc k) n l f =
+    let p = 10 ^ k in
+    let ten : 10 * p ≤ n = rw (sym (pow-succ' 10 k)) l in
+    let some : 1 ≤ p = one-le-pow k 10 (omega arith) in
+    omega (arith, width_least k (n / 10) (omega arith) (omega arith), more_digits n (omega arith) f)
 
-pub counted_more : (n rest digits : ℕ) → Counted n rest digits → 10 ≤ rest → Counted n (rest / 10) (digits + 1)
-counted_more n rest digits p l =
-    let f = p.fits in
-    let s : length (decimal rest) ≡ length (decimal (rest / 10)) + 1 = ap length (decimal_step rest l f) ∙ length_push (decimal (rest / 10)) (48 + rest % 10) in
-    record { fits = omega arith; sum = omega (arith, p.sum) }
+-- the digits of n, from its logarithm
+pub width_is : (k n : ℕ) → 10 ^ k ≤ n → n < 10 * 10 ^ k → n < 2 ^ 64 → length (decimal n) ≡ k + 1
+width_is k n low high f =
+    let next : 10 ^ (k + 1) ≡ 10 * 10 ^ k = ap (λ m. 10 ^ m) (add-one k) ∙ pow-succ' 10 k in
+    omega (arith, width_least k n low f, length-decimal-le (k + 1) n (omega arith) (omega arith) f)
 
-pub counted_all : (n rest digits : ℕ) → Counted n rest digits → rest < 10 → digits ≡ length (decimal n)
-counted_all n rest digits p l = omega (arith, p.sum, ap length (decimal_digit rest l))
+pub width_of : (n r : ℕ) (log : Option ℕ) → n < 2 ^ 64 → IfNone log (n ≡ 0) → IfSome log (λ k. 10 ^ k ≤ n) → IfSome log (λ k. n < 10 * 10 ^ k) → MatchOption log (r ≡ 1) (λ k. r ≡ k + 1) → r ≡ length (decimal n)
+width_of n r None f z low high e = e ∙ sym (ap length (decimal_digit n (omega arith)))
+width_of n r (Some k) f z low high e = e ∙ sym (width_is k n low high f)

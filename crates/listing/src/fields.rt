@@ -1,23 +1,17 @@
-//! The fields of a line, each put before a place of the buffer, since numbers are written from the back; and how many bytes
-//! a number takes.
+//! The fields of a line, each put before those that stand, since numbers are written from the back; and how many bytes a
+//! number takes.
 ghost use Rattle.std.specs.Prelude.{◌≡◌, ◌≤◌, length, decimal};
 ghost use Rattle.std.specs.Fmt.{signed_decimal};
 ghost use Rattle.listing.specs.Putting.{Roomy, Put};
 
-use sheets::decimals::{put_decimal, put_digits};
+use itoa::write_digits;
 
 /// How many digits `n` has.
 pub fn width(n: u64) -> usize
     ensures size { result ≡ length (decimal n) }
     ensures most { result ≤ 20 }
 {
-    let mut rest = n;
-    let mut digits = 1;
-    while rest >= 10 {
-        rest /= 10;
-        digits += 1;
-    }
-    digits
+    n.checked_ilog10().map_or(1, |log| log as usize + 1)
 }
 
 /// The same, with the minus of a number below 0.
@@ -29,34 +23,49 @@ pub fn signed_width(n: i64) -> usize
     if n < 0 { digits + 1 } else { digits }
 }
 
-/// Puts a word before the place `at`, and answers the place of its first byte.
-pub fn put_word(word: &[u8], out: &mut [u8], at: usize) -> usize
-    requires { Roomy word.now at out.old }
-    ensures { Put word.now at out.old result out.new }
-{
-    let first = at - word.len();
-    out[first..at].copy_from_slice(word);
-    first
+/// A buffer and the place in it before which the next text is put. What stands behind the place stays.
+#[derive(Drop)]
+pub struct Pen<'a> {
+    pub out: &'a mut [u8],
+    pub at: usize,
 }
 
-/// The same with the digits of a number.
-pub fn put_number(n: u64, out: &mut [u8], at: usize) -> usize
-    requires { Roomy (decimal n) at out.old }
-    ensures { Put (decimal n) at out.old result out.new }
-{
-    let Ok(first) = put_digits(n, &mut out[0..at]) else {
-        return unreachable();
-    };
-    first
-}
+impl<'a> Pen<'a> {
+    pub fn new(out: &'a mut [u8], at: usize) -> Pen<'a>
+        ensures same_reference { result.out.ghost_name ≡ out.entry.ghost_name }
+        ensures bytes { result.out.now ≡ out.old }
+        ensures place { result.at ≡ at }
+    {
+        Pen { out, at }
+    }
 
-/// The same with a number that may be below 0.
-pub fn put_signed(n: i64, out: &mut [u8], at: usize) -> usize
-    requires { Roomy (signed_decimal n) at out.old }
-    ensures { Put (signed_decimal n) at out.old result out.new }
-{
-    let Ok(first) = put_decimal(n, &mut out[0..at]) else {
-        return unreachable();
-    };
-    first
+    pub fn word(&mut self, word: &[u8])
+        requires { Roomy word.now self.old.at self.old.out.now }
+        ensures same_reference { self.new.out.ghost_name ≡ self.old.out.ghost_name }
+        ensures put { Put word.now self.old.at self.old.out.now self.new.at self.new.out.now }
+    {
+        let first = self.at - word.len();
+        self.out[first..self.at].copy_from_slice(word);
+        self.at = first;
+    }
+
+    pub fn number(&mut self, n: u64)
+        requires { Roomy (decimal n) self.old.at self.old.out.now }
+        ensures same_reference { self.new.out.ghost_name ≡ self.old.out.ghost_name }
+        ensures put { Put (decimal n) self.old.at self.old.out.now self.new.at self.new.out.now }
+    {
+        self.at = write_digits(n, self.out, self.at);
+    }
+
+    /// The same with a number that may be below 0.
+    pub fn signed(&mut self, n: i64)
+        requires { Roomy (signed_decimal n) self.old.at self.old.out.now }
+        ensures same_reference { self.new.out.ghost_name ≡ self.old.out.ghost_name }
+        ensures put { Put (signed_decimal n) self.old.at self.old.out.now self.new.at self.new.out.now }
+    {
+        self.number(n.unsigned_abs());
+        if n < 0 {
+            self.word(b"-");
+        }
+    }
 }

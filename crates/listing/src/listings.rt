@@ -4,17 +4,20 @@ ghost use Rattle.levels.specs.Drawing.{allowed};
 ghost use Rattle.levels.specs.Walks.{come_to};
 ghost use Rattle.schedule.specs.Calls.{passes};
 ghost use Rattle.sheets.specs.Lines.{answer};
+ghost use Rattle.listing.specs.declared.listings.ListingFault.TheVariants.{Refused};
 ghost use Rattle.listing.specs.Listing.{listing};
 ghost use Rattle.listing.specs.Listings.{listing_number, level_text, listed};
 
-use crate::lines::write_turns;
+use crate::lines::{round_turns, write_heights};
 use levels::walks::Walk;
 use samples::refusals::Refusal;
+use samples::turns::find;
+use scale_space::turns::{Turn, TurnKind};
 use schedule::schedules::Schedule;
 use sheets::faults::SheetFault;
 
 /// Why a level was not listed.
-#[derive(Clone, Copy)]
+#[derive(Clone, Copy, Debug, PartialEq, Eq)]
 pub enum ListingFault {
     /// It cannot be drawn.
     Refused(Refusal),
@@ -33,12 +36,30 @@ impl ListingFault {
     }
 }
 
+impl From<Refusal> for ListingFault {
+    ghost from_gives = { λ refusal fault. fault ≡ Refused refusal };
+
+    fn from(refusal: Refusal) -> ListingFault {
+        ListingFault::Refused(refusal)
+    }
+}
+
 /// Writes the listing of the level that a walk has come to into the front of `out`, and answers how many bytes it has.
 pub fn list(walk: &Walk, out: &mut [u8]) -> Result<usize, SheetFault>
     ensures answers { result ≡ (answer (Ok (listing walk.now.level (come_to walk.now))) out.old).0 }
     ensures writes { out.new ≡ (answer (Ok (listing walk.now.level (come_to walk.now))) out.old).1 }
 {
-    write_turns(walk.level(), walk.scale(), walk.numerators(), out)
+    let mut table = [Turn {
+        kind: TurnKind::Ridge,
+        place: 0,
+        numerator: 0,
+    }; 2048];
+    let Ok(count) = find(walk.numerators(), &mut table) else {
+        return unreachable();
+    };
+    let turns = &mut table[..count];
+    round_turns(turns, walk.scale());
+    write_heights(walk.level(), turns, out)
 }
 
 /// Writes the listing of level k of a schedule, drawn from a profile, into the front of `out`, and answers how many bytes it
@@ -52,13 +73,7 @@ pub fn list_level(
     ensures answers { result ≡ (listed (allowed (passes schedule.now) k profile.now (length profile.now)) (level_text (passes schedule.now) k profile.now) out.old).0 }
     ensures writes { out.new ≡ (listed (allowed (passes schedule.now) k profile.now (length profile.now)) (level_text (passes schedule.now) k profile.now) out.old).1 }
 {
-    let mut walk = match Walk::new(schedule, k, profile) {
-        Ok(walk) => walk,
-        Err(refusal) => return Err(ListingFault::Refused(refusal)),
-    };
+    let mut walk = Walk::new(schedule, k, profile)?;
     walk.climb();
-    match list(&walk, out) {
-        Ok(size) => Ok(size),
-        Err(_) => Err(ListingFault::BufferTooShort),
-    }
+    list(&walk, out).map_err(|_| ListingFault::BufferTooShort)
 }

@@ -4,12 +4,12 @@ ghost use Rattle.sheets.specs.Lines.{answer};
 ghost use Rattle.listing.specs.Putting.{Roomy, Put};
 ghost use Rattle.listing.specs.Rejections.{rejection_word, rejection_number, rejected_at, told, rejection_line};
 
-use crate::fields::{put_number, put_word, width};
+use crate::fields::{Pen, width};
 use samples::refusals::Refusal;
 use sheets::faults::SheetFault;
 
 /// What was refused, and why.
-#[derive(Clone, Copy)]
+#[derive(Clone, Copy, Debug, PartialEq, Eq)]
 pub enum Rejection {
     /// The input as a whole.
     Input,
@@ -56,17 +56,18 @@ impl Rejection {
     }
 }
 
-/// Puts the line of a word and two numbers before the place `at`, and answers the place of its first byte.
-fn put_told(word: &[u8], number: u8, line: usize, out: &mut [u8], at: usize) -> usize
-    requires { Roomy (told word.now number line) at out.old }
-    ensures { Put (told word.now number line) at out.old result out.new }
+/// Puts the line of a word and two numbers.
+fn put_told(word: &[u8], number: u8, line: usize, pen: &mut Pen)
+    requires { Roomy (told word.now number line) pen.old.at pen.old.out.now }
+    ensures same_reference { pen.new.out.ghost_name ≡ pen.old.out.ghost_name }
+    ensures put { Put (told word.now number line) pen.old.at pen.old.out.now pen.new.at pen.new.out.now }
 {
-    let at = put_word(b"\n", out, at);
-    let at = put_number(line as u64, out, at);
-    let at = put_word(b",", out, at);
-    let at = put_number(number as u64, out, at);
-    let at = put_word(b",", out, at);
-    put_word(word, out, at)
+    pen.word(b"\n");
+    pen.number(line as u64);
+    pen.word(b",");
+    pen.number(number as u64);
+    pen.word(b",");
+    pen.word(word);
 }
 
 /// Writes the line of a rejection into the front of `out`, and answers how many bytes it has: never more than 51.
@@ -82,6 +83,6 @@ pub fn write_rejection(rejection: Rejection, out: &mut [u8]) -> Result<usize, Sh
     if size > out.len() {
         return Err(SheetFault::BufferTooShort);
     }
-    put_told(word, number, line, out, size);
+    put_told(word, number, line, &mut Pen::new(out, size));
     Ok(size)
 }

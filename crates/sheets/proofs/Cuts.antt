@@ -1,9 +1,13 @@
 -- Where a text is cut.
-use Rattle.std.proofs.Common.{◌≡◌, ℕ, zero, suc, ◌+◌, ◌-◌, ◌<◌, Bool, true, false, cond, eqb, List, [], ◌∷◌, length, get_or, take, drop, sym, refl, ap, ◌∙◌, add-one, arith}
-use Rattle.std.proofs.lemmas.Bool.{eq-eqb, ne_eqb, cond-true, cond-false}
-use native.Mathlib.Nat.{sub-zero}
+use Rattle.std.proofs.Common.{◌≡◌, ℕ, zero, suc, ◌+◌, ◌-◌, ◌<◌, ◌≤◌, Bool, true, false, cond, eqb, List, [], ◌∷◌, length, get_or, take, drop, Some, None, sym, refl, ap, ◌∙◌, add-one, arith}
+use Rattle.std.proofs.lemmas.Bool.{eqb-true, eq-eqb, ne_eqb, cond-true, cond-false}
 use Rattle.std.proofs.lemmas.List.{take_rest, length-take, length-drop}
+use Rattle.std.specs.List.{position, position_or_len}
+use Rattle.std.proofs.lemmas.List.Sums.{fails_before_first}
+use Rattle.std.proofs.lemmas.List.Quantifiers.{position-Some}
+use Rattle.std.proofs.lemmas.Bool.Decides.{nat_tests}
 use Rattle.sheets.specs.Lines.{cut, before}
+use Rattle.sheets.proofs.Basics.{clash}
 
 -- a text has a first part
 pub cut_some : (c : ℕ) (bs : List ℕ) → (p : List ℕ) × (ps : List (List ℕ)) × (cut c bs ≡ p ∷ ps)
@@ -32,13 +36,26 @@ module _ (c : ℕ) where
   cut_first (b ∷ bs) (suc i) l h e =
       cut_other b bs (h 0 (omega arith)) ∙ ap (before b) (cut_first bs i (omega arith) (λ k m. h (suc k) (omega arith)) e)
 
-  -- the same, as the checker has `&text[0..i]` and `&text[i + 1..]`
-  pub split_first : (bs : List ℕ) (i : ℕ) → i < length bs → ((k : ℕ) → k < i → get_or bs k 0 ≡ c → ⊥) → get_or bs i 0 ≡ c → (cut c bs ≡ take (i - 0) bs ∷ cut c (take (length bs - (i + 1)) (drop (i + 1) bs))) × (length (take (length bs - (i + 1)) (drop (i + 1) bs)) < length bs)
+  -- the same, as the checker has `&text[i + 1..]`
+  split_first : (bs : List ℕ) (i : ℕ) → i < length bs → ((k : ℕ) → k < i → get_or bs k 0 ≡ c → ⊥) → get_or bs i 0 ≡ c → (cut c bs ≡ take i bs ∷ cut c (take (length bs - (i + 1)) (drop (i + 1) bs))) × (length (take (length bs - (i + 1)) (drop (i + 1) bs)) < length bs)
   split_first bs i l h e =
       let rest = take_rest bs (i + 1) in (
         cut_first bs i l h e
-            ∙ ap (λ n. take n bs ∷ cut c (drop (suc i) bs)) (sym (sub-zero i))
-            ∙ ap (λ n. take (i - 0) bs ∷ cut c (drop n bs)) (sym (add-one i))
-            ∙ ap (λ r. take (i - 0) bs ∷ cut c r) (sym rest),
+            ∙ ap (λ n. take i bs ∷ cut c (drop n bs)) (sym (add-one i))
+            ∙ ap (λ r. take i bs ∷ cut c r) (sym rest),
         simp (length-take, length-drop) (omega arith),
       )
+
+  -- the same, by the first place of c
+  abbrev is_c : ℕ → Bool
+  is_c b = eqb b c
+
+  pub none_at : (bs : List ℕ) → None ≡ position is_c bs → cut c bs ≡ bs ∷ []
+  none_at bs e =
+      let far : length bs ≤ position_or_len is_c bs = grind (arith, nat_tests) in
+      cut_none bs (λ k l is. clash (ap (λ t. cond t 0 1) (sym (eq-eqb _ _ is) ∙ fails_before_first is_c bs k 0 (omega arith))))
+
+  pub first_at : (bs : List ℕ) (i : ℕ) → Some i ≡ position is_c bs → (cut c bs ≡ take i bs ∷ cut c (take (length bs - (i + 1)) (drop (i + 1) bs))) × (length (take (length bs - (i + 1)) (drop (i + 1) bs)) < length bs)
+  first_at bs i e =
+      let p = position-Some is_c bs i 0 (sym e) in
+      split_first bs i p.0 (λ k l is. clash (ap (λ t. cond t 0 1) (sym (eq-eqb _ _ is) ∙ p.2 k l))) (eqb-true _ _ p.1)

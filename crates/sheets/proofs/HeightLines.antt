@@ -1,25 +1,15 @@
 -- What one value line of a profile gives.
-use Rattle.std.proofs.Common.{◌≡◌, ℕ, ◌+◌, ◌-◌, ◌^◌, ◌<◌, min, Bool, true, false, cond, ◌&&◌, eqb, ltb, List, [], ◌∷◌, ◌++◌, length, ℤ, pos, negsuc, Some, None, Ok, Err, Option, Result, sym, refl, ap, ◌∙◌, ⊎_elim, arith}
+use Rattle.std.proofs.Common.{◌≡◌, ℕ, true, false, ◌&&◌, eqb, List, [], ◌∷◌, length, ℤ, pos, Some, None, Ok, Err, Option, Result, sym, refl, ap, ◌∙◌, ⊎_elim, arith}
 use Rattle.std.specs.Option.{option_map, ok_or}
-use Rattle.std.proofs.lemmas.Bool.Decides.{nat_tests}
-use Rattle.std.proofs.lemmas.Bool.{cases_Bool, and_parts, eqb-true, ltb-true, cond-true, cond-false}
+use Rattle.std.proofs.lemmas.Bool.{cases_Bool, and_parts, eqb-true, cond-true, cond-false}
 use Rattle.sheets.specs.declared.faults.SheetFault.{SheetFault}
-use Rattle.sheets.specs.declared.faults.SheetFault.TheVariants.{Malformed, Refused}
+use Rattle.sheets.specs.declared.faults.SheetFault.TheVariants.{Malformed}
 use Rattle.sheets.specs.Numbers.{digits, leads, value, capped, capped_integer, natural, negative, integer}
 use Rattle.sheets.specs.Lines.{cut}
 use Rattle.sheets.proofs.Cuts.{cut_some}
-use Rattle.sheets.specs.Profiles.{both, station_height, accepted, judged, height_at, pushed, capped_both}
-use Rattle.samples.specs.Answers.{height_lawful}
+use Rattle.sheets.specs.Profiles.{both, station_height, capped_both}
 use Rattle.sheets.proofs.Basics.{clash, is_some}
 use Rattle.sheets.proofs.Numerals.{Free, free_digits, cut_last, glue, glue_cut}
-
-pub pair_two : (l s r : List ℕ) → cut 44 l ≡ s ∷ cut 44 r → cut 44 r ≡ r ∷ [] → station_height (cut 44 l) ≡ both (natural s) (integer r)
-pair_two l s r e f = ap station_height (e ∙ ap (λ q. s ∷ q) f)
-
-pub pair_more : (l s r a b : List ℕ) → cut 44 l ≡ s ∷ cut 44 r → cut 44 r ≡ a ∷ cut 44 b → station_height (cut 44 l) ≡ None
-pair_more l s r a b e f =
-    let g = cut_some 44 b in
-    ap station_height (e ∙ ap (λ q. s ∷ q) (f ∙ ap (λ q. a ∷ q) g.2))
 
 -- no comma stands in a height
 height_free : (r : List ℕ) (h : ℤ) → integer r ≡ Some h → Free 44 r
@@ -72,22 +62,10 @@ module _ (e : SheetFault) where
       let y : b ≡ capped_integer h = cc in
       λ i. Ok (x i, y i)
 
-  pub line_left : (o : Option ℕ) (p : Option ℤ) (y : SheetFault) → Err y ≡ ok_or (option_map capped o) e → Err y ≡ ok_or (option_map capped_both (both o p)) e
-  line_left None p y f = let x : y ≡ e = cc in ap Err x
-  line_left (Some s) p y f = clash cc
-
   pub line_right : (o : Option ℕ) (p : Option ℤ) (y : SheetFault) → Err y ≡ ok_or (option_map capped_integer p) e → Err y ≡ ok_or (option_map capped_both (both o p)) e
   line_right o (Some h) y f = clash cc
   line_right None None y f = let x : y ≡ e = cc in ap Err x
   line_right (Some s) None y f = let x : y ≡ e = cc in ap Err x
-
-in_range_capped : (h : ℤ) → height_lawful (capped_integer h) ≡ height_lawful h
-in_range_capped (pos n) = grind (arith, nat_tests)
-in_range_capped (negsuc n) = grind (arith, nat_tests)
-
-capped_in_range : (h : ℤ) → height_lawful h ≡ true → capped_integer h ≡ h
-capped_in_range (pos n) r = let e : min n (2 ^ 32 - 1) ≡ n = grind (arith, nat_tests) in ap pos e
-capped_in_range (negsuc n) r = let e : min n (2 ^ 32 - 2) ≡ n = grind (arith, nat_tests) in ap negsuc e
 
 -- ---- line n, of two fields, s and r
 abbrev pub Line : List ℕ → ℕ → Result (ℕ × ℤ) SheetFault
@@ -100,63 +78,5 @@ module _ (l s r : List ℕ) (n : ℕ) (e : cut 44 l ≡ s ∷ cut 44 r) where
   pub value_ok : (a : ℕ) (b : ℤ) → Ok a ≡ ok_or (option_map capped (natural s)) (Malformed n) → Ok b ≡ ok_or (option_map capped_integer (integer r)) (Malformed n) → Ok (a, b) ≡ Line l n
   value_ok a b x y = line_ok (Malformed n) (natural s) (integer r) a b x y ∙ is_line
 
-  pub value_left : (y : SheetFault) → Err y ≡ ok_or (option_map capped (natural s)) (Malformed n) → Err y ≡ Line l n
-  value_left y x = line_left (Malformed n) (natural s) (integer r) y x ∙ is_line
-
   pub value_right : (y : SheetFault) → Err y ≡ ok_or (option_map capped_integer (integer r)) (Malformed n) → Err y ≡ Line l n
   value_right y x = line_right (Malformed n) (natural s) (integer r) y x ∙ is_line
-
--- ---- the tests do not see the cap
-
-accepted_capped : (k : ℕ) (p : ℕ × ℤ) → accepted k (capped_both p) ≡ accepted k p
-accepted_capped k p = ap (λ t. ltb k 2048 && (eqb (capped p.0) k && t)) (in_range_capped p.1) ∙ go (height_lawful p.1)
-  where
-    go : (t : Bool) → (ltb k 2048 && (eqb (capped p.0) k && t)) ≡ (ltb k 2048 && (eqb p.0 k && t))
-    go t = grind (arith, nat_tests)
-
-height_capped : (k : ℕ) (o : Option (ℕ × ℤ)) → judged k (option_map capped_both o) ≡ judged k o
-height_capped k None = refl
-height_capped k (Some p) =
-    ap (λ t. cond t (Ok (capped_integer p.1)) (Err (Refused (k + 2)))) (accepted_capped k p) ∙ go (accepted k p) (λ h. capped_in_range p.1 (and_parts _ _ (and_parts (ltb k 2048) _ h).1).1)
-  where
-    go : (t : Bool) → (t ≡ true → capped_integer p.1 ≡ p.1) → cond t (Ok (capped_integer p.1)) (Err (Refused (k + 2))) ≡ cond t (Ok p.1) (Err (Refused (k + 2)))
-    go true h = ap Ok (h refl)
-    go false h = refl
-
-from_ok : (o : Option (ℕ × ℤ)) (e : SheetFault) (p : ℕ × ℤ) → Ok p ≡ ok_or o e → o ≡ Some p
-from_ok None e p h = clash cc
-from_ok (Some q) e p h = let x : q ≡ p = cc in ap Some x
-
-module _ (l : List ℕ) (k n s : ℕ) (h : ℤ) (e : Ok (s, h) ≡ Line l n) where
-  is_height : height_at k (cut 44 l) ≡ judged k (Some (s, h))
-  is_height =
-      sym (height_capped k (station_height (cut 44 l))) ∙ ap (judged k) (from_ok (option_map capped_both (station_height (cut 44 l))) (Malformed n) (s, h) e)
-
-  -- z is h, to its bits and back
-  pub height_ok : (z : ℤ) → z ≡ h → true ≡ accepted k (s, z) → Ok z ≡ height_at k (cut 44 l)
-  height_ok z e t = sym (cond-true _ _ _ (sym t)) ∙ ap (λ y. judged k (Some (s, y))) e ∙ sym is_height
-
-  pub height_refused : (z : ℤ) → z ≡ h → false ≡ accepted k (s, z) → Err (Refused (k + 2)) ≡ height_at k (cut 44 l)
-  height_refused z e t = sym (cond-false _ _ _ (sym t)) ∙ ap (λ y. judged k (Some (s, y))) e ∙ sym is_height
-
-pub height_malformed : (l : List ℕ) (k : ℕ) (y : SheetFault) → Err y ≡ Line l (k + 2) → Err y ≡ height_at k (cut 44 l)
-height_malformed l k y e = go (station_height (cut 44 l)) e
-  where
-    go : (o : Option (ℕ × ℤ)) → Err y ≡ ok_or (option_map capped_both o) (Malformed (k + 2)) → Err y ≡ judged k o
-    go None f = let x : y ≡ Malformed (k + 2) = cc in ap Err x
-    go (Some p) f = clash cc
-
-pub height_below : (k : ℕ) (o : Option (ℕ × ℤ)) (h : ℤ) → Ok h ≡ judged k o → k < 2048
-height_below k None h e = clash cc
-height_below k (Some p) h e = go (accepted k p) (λ t. ltb-true k 2048 (and_parts _ _ t).0) e
-  where
-    go : (t : Bool) → (t ≡ true → k < 2048) → Ok h ≡ cond t (Ok p.1) (Err (Refused (k + 2))) → k < 2048
-    go true f g = f refl
-    go false f g = clash cc
-
--- ---- the heights so far, and one more
-pub pushed_ok : (hs : List ℤ) (r : Result ℤ SheetFault) (h : ℤ) → Ok h ≡ r → pushed hs r ≡ Ok (hs ++ h ∷ [])
-pushed_ok hs r h e = ap (pushed hs) (sym e)
-
-pub pushed_err : (hs : List ℤ) (r : Result ℤ SheetFault) (y : SheetFault) → Err y ≡ r → pushed hs r ≡ Err y
-pushed_err hs r y e = ap (pushed hs) (sym e)

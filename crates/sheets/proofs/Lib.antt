@@ -8,8 +8,6 @@ pub mod Numerals
 pub mod Exactness
 pub mod ExactProfiles
 pub mod PassLines
-pub mod Fitting
-pub mod LineEnds
 pub mod Filling
 pub mod ExactSchedules
 mod Examples

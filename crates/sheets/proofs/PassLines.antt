@@ -1,5 +1,5 @@
 -- What one value line of a schedule gives.
-use Rattle.std.proofs.Common.{◌≡◌, ℕ, ◌+◌, ◌^◌, ◌<◌, ◌≤◌, Bool, true, false, cond, ◌&&◌, leb, List, [], ◌∷◌, ◌++◌, map, length, Some, None, Ok, Err, Option, Result, sym, refl, ap, ◌∙◌, ⊎_elim, arith}
+use Rattle.std.proofs.Common.{◌≡◌, ℕ, ◌+◌, ◌^◌, ◌≤◌, Bool, true, false, cond, ◌&&◌, leb, List, [], ◌∷◌, ◌++◌, map, length, Some, None, Ok, Err, Option, Result, sym, refl, ap, ◌∙◌, ⊎_elim, arith}
 use Rattle.std.specs.Option.{option_map, ok_or}
 use Rattle.std.specs.List.{AllByRecursion}
 use Rattle.std.proofs.lemmas.List.{length_push}
@@ -16,11 +16,11 @@ use Rattle.schedule.specs.Calls.{added, replaced, stands, refused, Ends}
 use Rattle.schedule.proofs.Meaning.{range_means}
 use Rattle.sheets.specs.declared.faults.SheetFault.{SheetFault}
 use Rattle.sheets.specs.declared.faults.SheetFault.TheVariants.{Malformed, Refused}
-use Rattle.sheets.specs.declared.schedule_sheets.TapCount.TheVariants.{Two, Three}
-use Rattle.sheets.specs.Numbers.{capped, natural}
+use Rattle.sheets.specs.Numbers.{capped}
 use Rattle.sheets.specs.Lines.{cut}
-use Rattle.sheets.specs.ScheduleSheets.{two, three, counts, weighed, pass_of, told, joining, with_pass, capped_pass}
+use Rattle.sheets.specs.ScheduleSheets.{pass_of, told, joining, with_pass, capped_pass}
 use Rattle.sheets.proofs.Cuts.{cut_some}
+use Rattle.std.specs.Result.{IsOk, IsErr}
 use Rattle.sheets.proofs.Basics.{clash}
 
 -- ---- what was added
@@ -38,69 +38,6 @@ added_is ps (Ok p) n e =
     let r = replaced_is ps (ps ++ p ∷ []) n e in
     (r.0 ∙ length_push ps p, r.0 ∙ ap length (sym r.3), omega (arith, r.0, r.1))
 
--- ---- the weights
-
-module _ (e : SheetFault) where
-  pub pair_ok : (o p : Option ℕ) (a b : ℕ) → Ok a ≡ ok_or (option_map capped o) e → Ok b ≡ ok_or (option_map capped p) e → Ok (Pair a b) ≡ ok_or (option_map capped_pass (two o p)) e
-  pair_ok None p a b f g = clash cc
-  pair_ok (Some s) None a b f g = clash cc
-  pair_ok (Some s) (Some h) a b f g =
-      let x : a ≡ capped s = cc in
-      let y : b ≡ capped h = cc in
-      λ i. Ok (Pair (x i) (y i))
-
-  pub triple_ok : (o p q : Option ℕ) (a b c : ℕ) → Ok a ≡ ok_or (option_map capped o) e → Ok b ≡ ok_or (option_map capped p) e → Ok c ≡ ok_or (option_map capped q) e → Ok (Triple a b c) ≡ ok_or (option_map capped_pass (three o p q)) e
-  triple_ok None p q a b c f g h = clash cc
-  triple_ok (Some s) None q a b c f g h = clash cc
-  triple_ok (Some s) (Some t) None a b c f g h = clash cc
-  triple_ok (Some s) (Some t) (Some u) a b c f g h =
-      let x : a ≡ capped s = cc in
-      let y : b ≡ capped t = cc in
-      let z : c ≡ capped u = cc in
-      λ i. Ok (Triple (x i) (y i) (z i))
-
-  is_err : (o : Option ℕ) (y : SheetFault) → Err y ≡ ok_or (option_map capped o) e → (o ≡ None) × (y ≡ e)
-  is_err None y f = (refl, cc)
-  is_err (Some s) y f = clash cc
-
-  two_second : (o : Option ℕ) → two o None ≡ None
-  two_second None = refl
-  two_second (Some s) = refl
-
-  pub pair_first : (o p : Option ℕ) (y : SheetFault) → Err y ≡ ok_or (option_map capped o) e → Err y ≡ ok_or (option_map capped_pass (two o p)) e
-  pair_first o p y f =
-      let h = is_err o y f in
-      ap Err h.1 ∙ ap (λ x. ok_or (option_map capped_pass (two x p)) e) (sym h.0)
-
-  pub pair_second : (o p : Option ℕ) (y : SheetFault) → Err y ≡ ok_or (option_map capped p) e → Err y ≡ ok_or (option_map capped_pass (two o p)) e
-  pair_second o p y f =
-      let h = is_err p y f in
-      ap Err h.1 ∙ ap (λ x. ok_or (option_map capped_pass x) e) (sym (ap (two o) h.0 ∙ two_second o))
-
-  three_second : (o q : Option ℕ) → three o None q ≡ None
-  three_second None q = refl
-  three_second (Some s) q = refl
-
-  three_third : (o p : Option ℕ) → three o p None ≡ None
-  three_third None p = refl
-  three_third (Some s) None = refl
-  three_third (Some s) (Some t) = refl
-
-  pub triple_first : (o p q : Option ℕ) (y : SheetFault) → Err y ≡ ok_or (option_map capped o) e → Err y ≡ ok_or (option_map capped_pass (three o p q)) e
-  triple_first o p q y f =
-      let h = is_err o y f in
-      ap Err h.1 ∙ ap (λ x. ok_or (option_map capped_pass (three x p q)) e) (sym h.0)
-
-  pub triple_second : (o p q : Option ℕ) (y : SheetFault) → Err y ≡ ok_or (option_map capped p) e → Err y ≡ ok_or (option_map capped_pass (three o p q)) e
-  triple_second o p q y f =
-      let h = is_err p y f in
-      ap Err h.1 ∙ ap (λ x. ok_or (option_map capped_pass x) e) (sym (ap (λ x. three o x q) h.0 ∙ three_second o q))
-
-  pub triple_third : (o p q : Option ℕ) (y : SheetFault) → Err y ≡ ok_or (option_map capped q) e → Err y ≡ ok_or (option_map capped_pass (three o p q)) e
-  triple_third o p q y f =
-      let h = is_err q y f in
-      ap Err h.1 ∙ ap (λ x. ok_or (option_map capped_pass x) e) (sym (ap (λ x. three o p x) h.0 ∙ three_third o p))
-
 -- ---- the fields
 
 pub pass_more : (l n r a s b t x y : List ℕ) → cut 44 l ≡ n ∷ cut 44 r → cut 44 r ≡ a ∷ cut 44 s → cut 44 s ≡ b ∷ cut 44 t → cut 44 t ≡ x ∷ cut 44 y → pass_of (cut 44 l) ≡ None
@@ -110,29 +47,6 @@ pass_more l n r a s b t x y e f g h =
 
 abbrev pub PassLine : List ℕ → ℕ → Result Pass SheetFault
 PassLine l k = ok_or (option_map capped_pass (pass_of (cut 44 l))) (Malformed k)
-
-module _ (l n a b c : List ℕ) (k : ℕ) (e : cut 44 l ≡ n ∷ a ∷ b ∷ c ∷ []) where
-  pub line_none : None ≡ counts n → Err (Malformed k) ≡ PassLine l k
-  line_none f = ap (λ o. ok_or (option_map capped_pass (weighed o a b c)) (Malformed k)) f ∙ ap (λ q. ok_or (option_map capped_pass (pass_of q)) (Malformed k)) (sym e)
-
-  pub line_pair : Some Two ≡ counts n → length c ≡ 0 → ok_or (option_map capped_pass (two (natural a) (natural b))) (Malformed k) ≡ PassLine l k
-  line_pair f z =
-      go c z ∙ ap (λ o. ok_or (option_map capped_pass (weighed o a b c)) (Malformed k)) f ∙ ap (λ q. ok_or (option_map capped_pass (pass_of q)) (Malformed k)) (sym e)
-    where
-      go : (c : List ℕ) → length c ≡ 0 → ok_or (option_map capped_pass (two (natural a) (natural b))) (Malformed k) ≡ ok_or (option_map capped_pass (weighed (Some Two) a b c)) (Malformed k)
-      go [] z = refl
-      go (x ∷ c) z = absurd (omega arith)
-
-  pub line_long : Some Two ≡ counts n → 0 < length c → Err (Malformed k) ≡ PassLine l k
-  line_long f z =
-      go c z ∙ ap (λ o. ok_or (option_map capped_pass (weighed o a b c)) (Malformed k)) f ∙ ap (λ q. ok_or (option_map capped_pass (pass_of q)) (Malformed k)) (sym e)
-    where
-      go : (c : List ℕ) → 0 < length c → Err (Malformed k) ≡ ok_or (option_map capped_pass (weighed (Some Two) a b c)) (Malformed k)
-      go [] z = absurd (omega arith)
-      go (x ∷ c) z = refl
-
-  pub line_triple : Some Three ≡ counts n → ok_or (option_map capped_pass (three (natural a) (natural b) (natural c))) (Malformed k) ≡ PassLine l k
-  line_triple f = ap (λ o. ok_or (option_map capped_pass (weighed o a b c)) (Malformed k)) f ∙ ap (λ q. ok_or (option_map capped_pass (pass_of q)) (Malformed k)) (sym e)
 
 -- ---- no test sees the cap
 
@@ -182,17 +96,13 @@ module _ (l : List ℕ) (k : ℕ) (ps qs : List Pass) where
       let f = from_ok (pass_of (cut 44 l)) (Malformed (k + 2)) p e in
       ap (joining k ps) f.1 ∙ ap (λ m. told k (added ps m).answer (added ps m).after) (sym (made_capped f.0) ∙ ap made (sym f.2))
 
-  pub line_added : (p : Pass) (n : ℕ) → Ok p ≡ PassLine l (k + 2) → After p (Ok n) → (with_pass k ps (cut 44 l) ≡ Ok qs) × (n ≡ length ps + 1) × (n ≡ length qs) × (n ≤ 24)
-  line_added p n e a =
+  -- the line gives a pass, and the call on it ended with r
+  pub line_added : (p : Pass) (r : Result ℕ Refusal) → IsOk r → Ok p ≡ PassLine l (k + 2) → k ≡ length ps → After p r → (with_pass k ps (cut 44 l) ≡ Ok qs) × (length qs ≡ k + 1)
+  line_added p (Ok n) t e h a =
       let g = added_is ps (made p) n (sym a.answer) in
-      (is_joining p e ∙ (λ i. told k (sym a.answer i) (sym a.after i)), g.0, g.1 ∙ ap length (sym a.after), g.2)
+      (is_joining p e ∙ (λ i. told k (sym a.answer i) (sym a.after i)), omega (arith, g.0, g.1, ap length a.after))
+  line_added p (Err why) t e h a = clash cc
 
-  pub line_refused : (p : Pass) (why : Refusal) → Ok p ≡ PassLine l (k + 2) → After p (Err why) → with_pass k ps (cut 44 l) ≡ Err (Refused (k + 2))
-  line_refused p why e a = is_joining p e ∙ (λ i. told k (sym a.answer i) (sym a.after i))
-
-pub line_malformed : (l : List ℕ) (k : ℕ) (ps : List Pass) (y : SheetFault) → Err y ≡ PassLine l (k + 2) → with_pass k ps (cut 44 l) ≡ Err y
-line_malformed l k ps y e = go (pass_of (cut 44 l)) e
-  where
-    go : (o : Option Pass) → Err y ≡ ok_or (option_map capped_pass o) (Malformed (k + 2)) → joining k ps o ≡ Err y
-    go None f = let x : y ≡ Malformed (k + 2) = cc in ap Err (sym x)
-    go (Some p) f = clash cc
+  pub line_refused : (p : Pass) (r : Result ℕ Refusal) → IsErr r → Ok p ≡ PassLine l (k + 2) → After p r → with_pass k ps (cut 44 l) ≡ Err (Refused (k + 2))
+  line_refused p (Ok n) t e a = clash cc
+  line_refused p (Err why) t e a = is_joining p e ∙ (λ i. told k (sym a.answer i) (sym a.after i))

@@ -1,9 +1,12 @@
 //! Why a sheet was not read or written.
-ghost use Rattle.std.specs.Prelude.{◌≡◌};
-ghost use Rattle.sheets.specs.Faults.{fault_number, fault_line};
+ghost use Rattle.std.specs.Prelude.{◌≡◌, Some};
+ghost use Rattle.sheets.specs.Faults.{fault_number, fault_line, fault_words};
+
+use std::error::Error;
+use std::fmt;
 
 /// What is wrong with a sheet, or with the room for it. Whatever it is, the caller's buffers and schedule stay as they were.
-#[derive(Clone, Copy)]
+#[derive(Clone, Copy, Debug, PartialEq, Eq)]
 pub enum SheetFault {
     TooLong,
     WrongNames,
@@ -39,3 +42,19 @@ impl SheetFault {
         }
     }
 }
+
+impl fmt::Display for SheetFault {
+    ghost output = { λ fault. Some (fault_words fault) };
+
+    fn fmt<W: fmt::Write>(&self, f: &mut fmt::Formatter<W>) -> fmt::Result {
+        match self {
+            SheetFault::TooLong => write!(f, "too long"),
+            SheetFault::WrongNames => write!(f, "line 1 has the wrong names"),
+            SheetFault::Malformed { line } => write!(f, "line {line} is malformed"),
+            SheetFault::Refused { line } => write!(f, "line {line} is refused"),
+            SheetFault::BufferTooShort => write!(f, "the buffer is too short"),
+        }
+    }
+}
+
+impl Error for SheetFault {}

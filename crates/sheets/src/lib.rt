@@ -4,6 +4,8 @@
 
 pub mod decimals;
 pub mod faults;
+pub mod limits;
+mod lines;
 pub mod profiles;
 pub mod schedule_sheets;
 mod tokens;

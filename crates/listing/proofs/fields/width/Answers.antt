@@ -1,15 +1,10 @@
--- Each digit is counted once, and there are at most 20.
-use Rattle.std.proofs.Common.{arith}
-use Rattle.listing.proofs.Widths.{width_most, counted_more, counted_all}
+-- The digits of a number, from its logarithm.
+use Rattle.std.proofs.Common.{◌≡◌, ◌+◌, MatchOption, rules}
+use Rattle.listing.proofs.Widths.{width_of}
 use Rattle.listing.proofs.fields.width.Goals as goal
 
-pub overflow_add-digits : goal.overflow_add-digits
-overflow_add-digits c = omega (arith, width_most c.args.n c.ranges.n.fits, c.loop-rest.invariant.sum)
-
-pub loop-rest-preserved : goal.loop-rest-preserved
-loop-rest-preserved c = counted_more c.args.n c.loop-rest.rest c.loop-rest.digits c.loop-rest.invariant (omega arith)
-
-pub returns : goal.returns
-returns c =
-    let e = counted_all c.args.n c.loop-rest.rest c.loop-rest.digits c.loop-rest.invariant (omega arith) in
-    record { size = e; most = omega (arith, width_most c.args.n c.ranges.n.fits) }
+pub returns-clause-size : goal.returns-clause-size
+returns-clause-size c =
+    let l = c.checked_ilog10.ensures in
+    let e : MatchOption c.checked_ilog10.result (c.map_or.result ≡ 1) (λ k. c.map_or.result ≡ k + 1) = search rules in
+    width_of c.args.n c.map_or.result c.checked_ilog10.result c.ranges.n.fits l.none l.power_le l.next_power_gt e

@@ -2,7 +2,7 @@
 use Rattle.sheets.proofs.PassLines.{pass_more}
 use Rattle.sheets.proofs.schedule_sheets.four.Goals as goal
 
-pub returns-in_default-split-3 : goal.returns-in_default-split-3
-returns-in_default-split-3 c =
-    pass_more c.args.line.now c.in-Some.count.now c.in-Some.rest.now c.in-Some-split.a.now c.in-Some-split.rest.now c.in-Some-split-2.b.now c.in-Some-split-2.c.now c.in_default-split-3.field-0.0.now c.in_default-split-3.field-0.1.now
-    c.in-Some.ensures.0 c.in-Some-split.ensures.0 c.in-Some-split-2.ensures.0 c.in_default-split-3.ensures.0
+pub returns-in-Some : goal.returns-in-Some
+returns-in-Some c =
+    pass_more c.args.line.now c.in_ok-count.count.now c.in_ok-count.rest.now c.in_ok-a.a.now c.in_ok-a.rest.now c.in_ok-b.b.now c.in_ok-b.c.now c.in-Some.field-0.0.now c.in-Some.field-0.1.now
+    c.in_ok-count.ensures.0 c.in_ok-a.ensures.0 c.in_ok-b.ensures.0 c.in-Some.ensures.0

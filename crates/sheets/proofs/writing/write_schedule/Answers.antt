@@ -10,8 +10,8 @@ pub returns : goal.returns
 returns c =
     let ps = passes c.args.schedule.now in
     let out = c.args.out.now in
-    let e = c.write_passes.ensures in
-    let is = c.as_slice.ensures.value in
-    let a : c.write_passes.result ≡ (answer (Ok (schedule_sheet ps)) out).0 = e.answers ∙ ap (λ q. (answer (Ok (schedule_sheet q)) out).0) is in
-    let w : c.write_passes.new.out ≡ (answer (Ok (schedule_sheet ps)) out).1 = e.writes ∙ ap (λ q. (answer (Ok (schedule_sheet q)) out).1) is in
-    record { answers = a; writes = w; back = read_back ps out c.write_passes.new.out c.write_passes.result c.as_slice.ensures.standing a w; exact = exact_schedule }
+    let e = c.put_in_front.ensures in
+    let text : c.as_bytes.result.now ≡ schedule_sheet ps = c.as_bytes.ensures.value ∙ c.as_str.ensures.value ∙ c.sheet_of-sheet.ensures ∙ ap schedule_sheet c.as_slice.ensures.value in
+    let a : c.put_in_front.result ≡ (answer (Ok (schedule_sheet ps)) out).0 = e.answers ∙ ap (λ t. (answer (Ok t) out).0) text in
+    let w : c.put_in_front.new.places ≡ (answer (Ok (schedule_sheet ps)) out).1 = e.writes ∙ ap (λ t. (answer (Ok t) out).1) text in
+    record { answers = a; writes = w; back = read_back ps out c.put_in_front.new.places c.put_in_front.result c.as_slice.ensures.standing a w; exact = exact_schedule }
