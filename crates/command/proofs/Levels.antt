@@ -1,56 +1,21 @@
 -- The listings of the levels, put one behind the other.
-use Rattle.std.proofs.Common.{◌≡◌, ℕ, suc, ◌+◌, ◌-◌, ◌*◌, ◌<◌, ◌≤◌, true, false, List, [], ◌++◌, length, take, drop, ℤ, IfOk, Ok, Err, Result, sym, ap, ◌∙◌, subst, ap₂, append_assoc, append-nil, add-one, arith}
+use Rattle.std.proofs.Common.{◌≡◌, ℕ, suc, ◌+◌, ◌-◌, ◌*◌, ◌<◌, ◌≤◌, true, false, List, [], ◌++◌, length, take, drop, ℤ, sym, ap, ◌∙◌, subst, append_assoc, append-nil, add-one, arith}
 use borrow.Rule.Slice.PartMut.{put_mid}
 use Rattle.std.proofs.lemmas.List.{length-append, length-take, length-drop, take_at, take_rest, drop_at, drop-drop, drop_all}
-use Rattle.std.proofs.lemmas.Bool.{le-leb, ltb-true, ltb-false, cond-true}
+use Rattle.std.proofs.lemmas.Bool.{ltb-true, ltb-false}
 use Rattle.scale_space.specs.declared.passes.Pass.{Pass}
 use Rattle.schedule.proofs.Standing.{standing}
 use Rattle.levels.specs.declared.walks.Walk.{Walk}
 use Rattle.levels.specs.Walks.{come_to, At, Stepped}
 use Rattle.levels.proofs.Walking.{scale_is_lawful}
-use Rattle.sheets.specs.declared.faults.SheetFault.{SheetFault}
-use Rattle.sheets.specs.Lines.{answer}
-use Rattle.sheets.proofs.Basics.{clash}
 use Rattle.listing.specs.Listing.{listing}
 use Rattle.listing.proofs.Answering.{same_text}
 use Rattle.listing.proofs.Bounds.{listing_bound}
-use Rattle.command.specs.Answering.{listings, replied}
+use Rattle.command.specs.Answering.{listings}
 
 -- the text of the level that a walk has come to
 abbrev pub text : Walk → List ℕ
 text w = listing w.level (come_to w)
-
--- ---- one text, put at a place of a longer output
-
-module _ (t out : List ℕ) (at : ℕ) (room : at + length t ≤ length out) where
-  abbrev part : List ℕ
-  part = take (length out - at) (drop at out)
-
-  enough : length t ≤ length part
-  enough = omega (arith, ap length (take_rest out at), length-drop at out)
-
-  fits : answer (Ok t) part ≡ (Ok (length t), t ++ drop (length t) part)
-  fits = cond-true _ _ _ (le-leb (length t) (length part) enough)
-
-  pub not_short : (x : SheetFault) → Err x ≡ (answer (Ok t) part).0 → ⊥
-  not_short x e =
-      let g : ◌≡◌ {A = Result ℕ SheetFault} (Err x) (Ok (length t)) = e ∙ (λ j. (fits j).0) in
-      clash cc
-
-  pub size_is : (n : ℕ) → Ok n ≡ (answer (Ok t) part).0 → n ≡ length t
-  size_is n e =
-      let g : ◌≡◌ {A = Result ℕ SheetFault} (Ok n) (Ok (length t)) = e ∙ (λ j. (fits j).0) in
-      cc
-
-  pub put_is : (n : ℕ) (bytes : List ℕ) → n ≡ length t → bytes ≡ (answer (Ok t) part).1 → put_mid at (length out - at) out bytes ≡ take at out ++ (t ++ drop (at + n) out)
-  put_is n bytes same e =
-      let behind : drop (length t) part ≡ drop (at + n) out = ap₂ drop (sym same) (take_rest out at) ∙ drop-drop n at out in
-      let none : drop (length out - at) (drop at out) ≡ [] = drop_all (length out - at) (drop at out) (omega (arith, length-drop at out)) in
-      ap (λ r. take at out ++ r) (
-      (λ j. (e ∙ (λ i. (fits i).1)) j ++ none j)
-      ∙ append-nil (t ++ drop (length t) part)
-      ∙ ap (λ r. t ++ r) behind
-      )
 
 -- ---- the levels are few, and their texts short
 pub last_low : (w : Walk) → w.last ≤ 24
@@ -87,11 +52,32 @@ so_far_none w was start = record {
 }
 
 -- the text of the level was put behind the others
-pub record Next (v : Walk) (out : List ℕ) (at : ℕ) (after : List ℕ) (r : ℕ) : Type 0 where
-  pub place : r ≡ at + length (text v)
-  pub bytes : after ≡ take at out ++ (text v ++ drop r out)
+record Next (v : Walk) (out : List ℕ) (at : ℕ) (after : List ℕ) (r : ℕ) : Type 0 where
+  place : r ≡ at + length (text v)
+  bytes : after ≡ take at out ++ (text v ++ drop r out)
 
-module _ (w v : Walk) (was out : List ℕ) (at : ℕ) (p : SoFar w v was out at) (after : List ℕ) (r : ℕ) (n : Next v out at after r) where
+next_is : (v : Walk) (out bytes : List ℕ) (at n : ℕ) → n ≡ length (text v) → bytes ≡ text v ++ drop n (take (length out - at) (drop at out)) → Next v out at (put_mid at (length out - at) out bytes) (at + n)
+next_is v out bytes at n same e = record {
+  place = ap (λ k. at + k) same;
+  bytes =
+      let none : drop (length out - at) (drop at out) ≡ [] = drop_all (length out - at) (drop at out) (omega (arith, length-drop at out)) in
+      ap (λ r. take at out ++ r) (
+      (λ j. e j ++ none j)
+      ∙ append-nil _
+      ∙ ap (λ r. text v ++ r) (ap (drop n) (take_rest out at) ∙ drop-drop n at out)
+      );
+}
+
+module _ (w v : Walk) (was out : List ℕ) (at : ℕ) (p : SoFar w v was out at) (bytes : List ℕ) (size : ℕ) (same : size ≡ length (text v)) (puts : bytes ≡ text v ++ drop size (take (length out - at) (drop at out))) where
+  abbrev after : List ℕ
+  after = put_mid at (length out - at) out bytes
+
+  abbrev r : ℕ
+  r = at + size
+
+  n : Next v out at after r
+  n = next_is v out bytes at size same puts
+
   module _ (ps : List Pass) (hs : List ℤ) (a : At w ps (length ps) 0 hs) where
     abbrev b : Below v ps hs was out at
     b = p.law ps hs a
@@ -111,7 +97,7 @@ module _ (w v : Walk) (was out : List ℕ) (at : ℕ) (p : SoFar w v was out at)
           n.bytes ∙ (λ j. head j ++ (text v ++ rest j)) ∙ sym (append_assoc front (text v) (drop r was)) ∙ ap (λ l. l ++ drop r was) (sym (both m e)),
         )
 
-  pub so_far_more : (u : Walk) → r ≤ at + 47128 → Stepped v true u → ((ps : List Pass) (last k : ℕ) (hs : List ℤ) → At v ps last k hs → k < last → At u ps last (k + 1) hs) → SoFar w u was after r
+  pub so_far_more : (u : Walk) → size ≤ 47128 → Stepped v true u → ((ps : List Pass) (last k : ℕ) (hs : List ℤ) → At v ps last k hs → k < last → At u ps last (k + 1) hs) → SoFar w u was after r
   so_far_more u most s up =
       let more : v.level < v.last = ltb-true v.level v.last (sym s.answer) in
       let next : u.level ≡ v.level + 1 = s.so_far in
@@ -140,18 +126,3 @@ module _ (w v : Walk) (was out : List ℕ) (at : ℕ) (p : SoFar w v was out at)
 -- there is room for the text of the next level
 pub so_far_room : (w v : Walk) (was out : List ℕ) (at : ℕ) → SoFar w v was out at → 1178200 ≤ length out → (v.level ≤ 24) × (at + 47128 ≤ length out)
 so_far_room w v was out at p room = (omega (arith, p.low, last_low v), omega (arith, p.within, p.low, last_low v, room))
-
--- ---- what is answered, where the output has room for any listing
-module _ (printed : List ℕ) (was : List ℕ) (room : 1178200 ≤ length was) where
-  replied_is : replied printed was ≡ (Ok (length printed), printed ++ drop (length printed) was)
-  replied_is = cond-true _ _ _ (le-leb 1178200 (length was) room)
-
-  answer_is : length printed ≤ 1178200 → answer (Ok printed) was ≡ replied printed was
-  answer_is short = cond-true _ _ _ (le-leb (length printed) (length was) (omega (arith, short, room))) ∙ sym replied_is
-
-  -- a line that was written
-  pub line_replied : (line : List ℕ) → length line ≤ 51 → line ≡ printed → answer (Ok line) was ≡ replied printed was
-  line_replied line short e = ap (λ t. answer (Ok t) was) e ∙ answer_is (omega (arith, short, ap length e))
-
-  pub line_most : (r : Result ℕ SheetFault) (line : List ℕ) → length line ≤ 51 → line ≡ printed → r ≡ (replied printed was).0 → IfOk r (λ n. n ≤ 1178200)
-  line_most r line short e f = subst (λ x. IfOk x (λ n. n ≤ 1178200)) (sym (f ∙ (λ j. (replied_is j).0))) (omega (arith, short, ap length e))

@@ -1,4 +1,3 @@
 -- Lemmas by subject.
 pub mod Partings
-pub mod Requests
 pub mod Levels

@@ -1,4 +1,5 @@
 -- The definitions that the contracts cite.
 pub mod Parting
+pub mod Reading
 pub mod Asking
 pub mod Answering

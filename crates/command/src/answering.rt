@@ -1,5 +1,5 @@
 //! What the command prints.
-ghost use Rattle.std.specs.Prelude.{◌≡◌, suc, ◌+◌, ◌≤◌, List, ◌++◌, length, take, drop, ℤ, IfOk};
+ghost use Rattle.std.specs.Prelude.{◌≡◌, suc, ◌+◌, ◌≤◌, List, ◌++◌, length, drop, ℤ, IfOk};
 ghost use Rattle.scale_space.specs.declared.passes.Pass.{Pass};
 ghost use Rattle.levels.specs.Walks.{come_to, At};
 ghost use Rattle.listing.specs.Listing.{listing};
@@ -14,18 +14,19 @@ use sheets::faults::SheetFault;
 /// Room for any listing: 25 levels, with 2,048 lines of 23 bytes and the 24 bytes of the names for each.
 pub const MOST_OUTPUT: usize = 1_178_200;
 
-/// Puts the listing of the walk's level at the place `at`, and answers the place behind it.
-fn put_level(walk: &Walk, out: &mut [u8], at: usize) -> usize
+/// Writes the listing of the walk's level into the front of `out`, where any has room, and answers how many bytes it has.
+#[tactic(auto, using(crate::proofs::Levels::text_short))]
+fn put_level(walk: &Walk, out: &mut [u8]) -> usize
     requires low { walk.now.level ≤ 24 }
-    requires room { at + 47128 ≤ length out.old }
-    ensures place { result ≡ at + length (listing walk.now.level (come_to walk.now)) }
-    ensures most { result ≤ at + 47128 }
-    ensures bytes { out.new ≡ take at out.old ++ (listing walk.now.level (come_to walk.now) ++ drop result out.old) }
+    requires room { 47128 ≤ length out.old }
+    ensures size { result ≡ length (listing walk.now.level (come_to walk.now)) }
+    ensures most { result ≤ 47128 }
+    ensures bytes { out.new ≡ listing walk.now.level (come_to walk.now) ++ drop result out.old }
 {
-    let Ok(size) = list(walk, &mut out[at..]) else {
+    let Ok(size) = list(walk, out) else {
         return unreachable();
     };
-    at + size
+    size
 }
 
 /// Puts the listings of all levels into the front of `out`, and answers how many bytes they have.
@@ -37,7 +38,7 @@ fn put_levels(walk: &mut Walk, out: &mut [u8]) -> usize
 {
     let mut at = 0;
     loop {
-        at = put_level(walk, out, at);
+        at += put_level(walk, &mut out[at..]);
         if !walk.step() {
             return at;
         }

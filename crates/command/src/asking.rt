@@ -5,11 +5,10 @@ ghost use Rattle.sheets.specs.ScheduleSheets.{schedule_of};
 ghost use Rattle.command.specs.Asking.{together, asked, SetsOut};
 
 use crate::parting::part;
+use crate::profile::Profile;
+use crate::reading::schedule_in;
 use levels::walks::Walk;
 use listing::refusal_lines::Rejection;
-use schedule::schedules::Schedule;
-use sheets::profiles::read_profile;
-use sheets::schedule_sheets::read_schedule;
 
 /// The most bytes of an input.
 const MOST_BYTES: usize = 32_768;
@@ -18,20 +17,9 @@ const MOST_BYTES: usize = 32_768;
 fn set_out_with(first: &[u8], second: &[u8]) -> Result<Walk, Rejection>
     ensures { SetsOut result (together (schedule_of first.now) (profile_of second.now)) }
 {
-    let mut schedule = Schedule::new();
-    let mut heights = [0; 2048];
-    let last = match read_schedule(first, &mut schedule) {
-        Ok(count) => count,
-        Err(fault) => return Err(Rejection::Schedule(fault)),
-    };
-    let count = match read_profile(second, &mut heights) {
-        Ok(count) => count,
-        Err(fault) => return Err(Rejection::Profile(fault)),
-    };
-    match Walk::new(&schedule, last, &heights[0..count]) {
-        Ok(walk) => Ok(walk),
-        Err(refusal) => Err(Rejection::Draw(refusal)),
-    }
+    let schedule = schedule_in(first).map_err(Rejection::Schedule)?;
+    let profile = Profile::read(second).map_err(Rejection::Profile)?;
+    Walk::new(&schedule, schedule.len(), profile.heights()).map_err(Rejection::Draw)
 }
 
 /// A walk that sets out to do what the input asks for.

@@ -4,3 +4,5 @@
 pub mod answering;
 mod asking;
 mod parting;
+pub mod profile;
+pub mod reading;

@@ -1,5 +1,3 @@
 -- Lemmas by subject.
-pub mod Comparisons
-pub mod Levels
-pub mod Counting
 pub mod Tallies
+pub mod Counting

@@ -1,5 +1,7 @@
 -- What is tallied for a schedule sheet that was read, and that the numbers never rise.
-use Rattle.std.proofs.Common.{◌≡◌, ℕ, zero, suc, ◌<◌, ◌≤◌, List, [], ◌∷◌, ◌++◌, length, get_or, take, drop, ℤ, Ok, Err, Result, sym, refl, ap, ◌∙◌, subst, ⊎_elim, append_assoc, add-one, arith}
+use Rattle.std.proofs.Common.{◌≡◌, ℕ, zero, suc, ◌+◌, ◌-◌, ◌<◌, ◌≤◌, List, [], ◌∷◌, ◌++◌, length, get_or, take, drop, ℤ, Ok, Err, Result, sym, refl, ap, ◌∙◌, subst, ⊎_elim, append_assoc, add-one, arith}
+use borrow.Rule.Slice.PartMut.{put_mid}
+use native.Mathlib.Nat.{sub-zero}
 use Rattle.std.proofs.lemmas.List.{length-append, get_or_at}
 use Rattle.std.proofs.lemmas.Bool.{le-leb, lt-leb, cond-true, cond-false, cases_lt}
 use Rattle.scale_space.specs.declared.passes.Pass.{Pass}
@@ -27,9 +29,6 @@ length_counts ps hs (suc n) = omega (arith, length-append (turn_counts ps hs n) 
 
 -- ---- what comes out
 
-pub up_to_last : (w : Walk) (ps : List Pass) (last : ℕ) (hs : List ℤ) → last ≡ length ps → At w ps last 0 hs → At w ps (length ps) 0 hs
-up_to_last w ps last hs to a = subst (λ n. At w ps n 0 hs) to a
-
 module _ (s : Result (List Pass) SheetFault) (ps : List Pass) (reads : Ok ps ≡ s) (hs : List ℤ) (places : List ℕ) (last : ℕ) (to : last ≡ length ps) (lawful : allowed ps last hs (length hs) ≡ Ok tt) where
   abbrev all : List ℕ
   all = turn_counts ps hs (suc (length ps))
@@ -39,16 +38,18 @@ module _ (s : Result (List Pass) SheetFault) (ps : List Pass) (reads : Ok ps ≡
       ap (λ a. put_counts a all places) (sym lawful ∙ ap (λ k. allowed ps k hs (length hs)) to)
       ∙ ap (λ x. tallied x hs places) reads
 
-  pub tallied_short : length places ≤ last → (Err Room, places) ≡ tallied s hs places
+  pub tallied_short : length places < last + 1 → (Err Room, places) ≡ tallied s hs places
   tallied_short l =
       let no : answer (Ok all) places ≡ (Err BufferTooShort, places) = cond-false _ _ _ (lt-leb (length all) (length places) (omega (arith, to, length_counts ps hs (suc (length ps))))) in
       (λ j. (for_room (sym no j).0, (sym no j).1)) ∙ is
 
-  pub tallied_all : last < length places → (n : ℕ) (after : List ℕ) → (n ≡ suc (length ps)) × (after ≡ all ++ drop n places) → (Ok n, after) ≡ tallied s hs places
-  tallied_all l n after q =
-      let size : n ≡ length all = q.0 ∙ sym (length_counts ps hs (suc (length ps))) in
-      let yes : answer (Ok all) places ≡ (Ok (length all), all ++ drop (length all) places) = cond-true _ _ _ (le-leb (length all) (length places) (omega (arith, to, size, q.0))) in
-      (λ j. (Ok (size j), (q.1 ∙ ap (λ k. all ++ drop k places) size) j))
+  pub tallied_all : last + 1 ≤ length places → (w : Walk) → At w ps last 0 hs → (put : List ℕ) → ((qs : List Pass) (ks : List ℤ) → At w qs (length qs) 0 ks → put ≡ turn_counts qs ks (suc (length qs))) → (Ok (last + 1), put_mid 0 (last + 1 - 0) places put) ≡ tallied s hs places
+  tallied_all l w a put counts =
+      let size : last + 1 ≡ length all = omega (arith, to, length_counts ps hs (suc (length ps))) in
+      let here : put ≡ all = counts ps hs (subst (λ n. At w ps n 0 hs) to a) in
+      let yes : answer (Ok all) places ≡ (Ok (length all), all ++ drop (length all) places) = cond-true _ _ _ (le-leb (length all) (length places) (omega (arith, size, l))) in
+      let rest : drop (last + 1 - 0) (drop 0 places) ≡ drop (length all) places = ap (λ k. drop k places) (sub-zero (last + 1) ∙ size) in
+      (λ j. (Ok (size j), here j ++ rest j))
       ∙ (λ j. (for_room (sym yes j).0, (sym yes j).1))
       ∙ is
 

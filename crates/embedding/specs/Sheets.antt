@@ -1,8 +1,6 @@
 -- What is read from one sheet, and made of it.
 use Rattle.std.specs.Prelude.{ℕ, List, Ok, Err, Result}
 use Rattle.scale_space.specs.declared.passes.Pass.{Pass}
-use Rattle.schedule.specs.declared.schedules.Schedule.{Schedule}
-use Rattle.schedule.specs.Calls.{passes}
 use Rattle.sheets.specs.declared.faults.SheetFault.{SheetFault}
 use Rattle.sheets.specs.declared.faults.SheetFault.TheVariants.{TooLong, WrongNames, Malformed, Refused, BufferTooShort}
 use Rattle.sheets.specs.Lines.{answer}
@@ -10,11 +8,6 @@ use Rattle.sheets.specs.ScheduleSheets.{schedule_sheet}
 use Rattle.embedding.specs.declared.replies.Obstacle.{Obstacle}
 use Rattle.embedding.specs.declared.replies.Obstacle.TheVariants.{First, Room}
 use Rattle.embedding.specs.Replies.{for_room}
-
--- the passes that stand in the schedule that was read, if one was
-abbrev pub standing_in : Result Schedule SheetFault → Result (List Pass) SheetFault
-standing_in (Ok s) = Ok (passes s)
-standing_in (Err fault) = Err fault
 
 -- the sheet is at fault, unless it is the room
 abbrev pub blamed : SheetFault → Obstacle

@@ -3,7 +3,7 @@ ghost use Rattle.std.specs.Prelude.{◌≡◌, ◌≤◌};
 ghost use Rattle.command.specs.Answering.{printed, replied};
 ghost use Rattle.embedding.specs.Replies.{reply_to, for_room};
 
-use crate::replies::{Obstacle, Reply, reply_to};
+use crate::replies::{Obstacle, Reply};
 use command::answering::answer;
 
 /// The command on bytes: writes what `profile-turns` prints for the input into the front of `out`, and counts its bytes. It
@@ -13,8 +13,5 @@ pub fn hekudoja_answer(input: &[u8], out: &mut [u8]) -> Reply
     ensures writes { out.new ≡ (replied (printed input.now) out.old).1 }
     ensures most { result.count ≤ 1178200 }
 {
-    match answer(input, out) {
-        Ok(count) => reply_to(Ok(count)),
-        Err(_) => reply_to(Err(Obstacle::Room)),
-    }
+    Reply::from(answer(input, out).map_err(|_| Obstacle::Room))
 }

@@ -6,22 +6,13 @@ ghost use Rattle.sheets.specs.Profiles.{profile_of};
 ghost use Rattle.sheets.specs.ScheduleSheets.{schedule_of};
 ghost use Rattle.embedding.specs.Replies.{reply_to};
 ghost use Rattle.embedding.specs.Drawings.{level_drawn, length_of, scale_after, work_after};
-ghost use Rattle.embedding.specs.Listings.{why_unlisted, level_listed};
+ghost use Rattle.embedding.specs.Listings.{level_listed};
 
-use crate::reading::schedule_in;
-use crate::replies::{Obstacle, Reply, reply_to};
+use crate::replies::{Obstacle, Reply};
+use command::profile::Profile;
+use command::reading::schedule_in;
 use levels::draw::draw;
-use listing::listings::{ListingFault, list_level};
-use sheets::profiles::read_profile;
-
-fn obstacle_of(fault: ListingFault) -> Obstacle
-    ensures { result ≡ why_unlisted fault }
-{
-    match fault {
-        ListingFault::Refused(why) => Obstacle::Draw(why),
-        ListingFault::BufferTooShort => Obstacle::Room,
-    }
-}
+use listing::listings::list_level;
 
 fn list_from_sheets(
     schedule: &[u8],
@@ -32,19 +23,9 @@ fn list_from_sheets(
     ensures answers { result ≡ (level_listed (schedule_of schedule.now) level (profile_of profile.now) out.old).0 }
     ensures writes { out.new ≡ (level_listed (schedule_of schedule.now) level (profile_of profile.now) out.old).1 }
 {
-    let built = match schedule_in(schedule) {
-        Ok(built) => built,
-        Err(fault) => return Err(Obstacle::First(fault)),
-    };
-    let mut heights = [0; 2048];
-    let count = match read_profile(profile, &mut heights) {
-        Ok(count) => count,
-        Err(fault) => return Err(Obstacle::Second(fault)),
-    };
-    match list_level(&built, level, &heights[0..count], out) {
-        Ok(size) => Ok(size),
-        Err(fault) => Err(obstacle_of(fault)),
-    }
+    let built = schedule_in(schedule).map_err(Obstacle::First)?;
+    let profile = Profile::read(profile).map_err(Obstacle::Second)?;
+    list_level(&built, level, profile.heights(), out).map_err(Obstacle::from)
 }
 
 /// Writes the listing of one level, of the schedule and the profile that two sheets give, into the front of `out`, and counts
@@ -53,7 +34,7 @@ pub fn hekudoja_list_level(schedule: &[u8], level: usize, profile: &[u8], out: &
     ensures answers { result ≡ reply_to (level_listed (schedule_of schedule.now) level (profile_of profile.now) out.old).0 }
     ensures writes { out.new ≡ (level_listed (schedule_of schedule.now) level (profile_of profile.now) out.old).1 }
 {
-    reply_to(list_from_sheets(schedule, level, profile, out))
+    Reply::from(list_from_sheets(schedule, level, profile, out))
 }
 
 fn draw_from_sheet(
@@ -67,17 +48,10 @@ fn draw_from_sheet(
     ensures scales { scale.new ≡ scale_after (level_drawn (schedule_of schedule.now) level heights.now (length work.old)) scale.old }
     ensures places { work.new ≡ work_after (schedule_of schedule.now) level heights.now work.old }
 {
-    let built = match schedule_in(schedule) {
-        Ok(built) => built,
-        Err(fault) => return Err(Obstacle::First(fault)),
-    };
-    match draw(&built, level, heights, work) {
-        Ok(drawn) => {
-            *scale = drawn.scale;
-            Ok(drawn.length)
-        }
-        Err(why) => Err(Obstacle::Draw(why)),
-    }
+    let built = schedule_in(schedule).map_err(Obstacle::First)?;
+    let drawn = draw(&built, level, heights, work)?;
+    *scale = drawn.scale;
+    Ok(drawn.length)
 }
 
 /// Draws one level of the schedule that a sheet gives, exactly and in place: `work` then begins with the level's numerators,
@@ -96,5 +70,5 @@ pub fn hekudoja_draw(
     ensures places { work.new ≡ work_after (schedule_of schedule.now) level heights.now work.old }
     ensures calm { (ps : List Pass) (hs : List ℤ) → schedule_of schedule.now ≡ Ok ps → Calm ps hs }
 {
-    reply_to(draw_from_sheet(schedule, level, heights, work, scale))
+    Reply::from(draw_from_sheet(schedule, level, heights, work, scale))
 }

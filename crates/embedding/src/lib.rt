@@ -5,7 +5,6 @@
 pub mod command_calls;
 pub mod level_calls;
 pub mod profile_calls;
-mod reading;
 pub mod replies;
 pub mod schedule_calls;
 pub mod turn_calls;

@@ -5,7 +5,7 @@ ghost use Rattle.sheets.specs.Profiles.{profile_of, ExactProfile};
 ghost use Rattle.embedding.specs.Replies.{reply_to};
 ghost use Rattle.embedding.specs.Sheets.{blamed, sheet_or_room};
 
-use crate::replies::{Obstacle, Reply, reply_to};
+use crate::replies::{Obstacle, Reply};
 use sheets::faults::SheetFault;
 use sheets::profiles::read_profile;
 
@@ -25,8 +25,5 @@ pub fn hekudoja_read_profile(sheet: &[u8], heights: &mut [i64]) -> Reply
     ensures writes { heights.new ≡ (answer (profile_of sheet.now) heights.old).1 }
     ensures exact { ExactProfile }
 {
-    match read_profile(sheet, heights) {
-        Ok(count) => reply_to(Ok(count)),
-        Err(fault) => reply_to(Err(blame(fault))),
-    }
+    Reply::from(read_profile(sheet, heights).map_err(blame))
 }

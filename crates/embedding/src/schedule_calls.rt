@@ -6,8 +6,8 @@ ghost use Rattle.embedding.specs.Replies.{reply_to, in_first};
 ghost use Rattle.embedding.specs.Sheets.{rewritten};
 ghost use Rattle.embedding.specs.Verdicts.{Verdict, Compares};
 
-use crate::reading::schedule_in;
-use crate::replies::{Obstacle, Reply, reply_to};
+use crate::replies::{Obstacle, Reply};
+use command::reading::schedule_in;
 use primes::comparing::{Comparison, compare};
 use schedule::schedules::Schedule;
 use sheets::writing::write_schedule;
@@ -15,40 +15,30 @@ use sheets::writing::write_schedule;
 fn count_passes(sheet: &[u8]) -> Result<usize, Obstacle>
     ensures { result ≡ in_first (counted (schedule_of sheet.now)) }
 {
-    match schedule_in(sheet) {
-        Ok(schedule) => Ok(schedule.len()),
-        Err(fault) => Err(Obstacle::First(fault)),
-    }
+    let schedule = schedule_in(sheet).map_err(Obstacle::First)?;
+    Ok(schedule.len())
 }
 
 /// Reads a schedule sheet and counts its passes.
 pub fn hekudoja_check_schedule(sheet: &[u8]) -> Reply
     ensures { result ≡ reply_to (in_first (counted (schedule_of sheet.now))) }
 {
-    reply_to(count_passes(sheet))
+    Reply::from(count_passes(sheet))
 }
 
 /// 1 where two schedules are equal, and 0 where they are not.
 fn verdict(x: &Schedule, y: &Schedule) -> usize
     ensures { Verdict (passes x.now) (passes y.now) result }
 {
-    match compare(x, y) {
-        Comparison::Equal => 1,
-        Comparison::Different => 0,
-    }
+    usize::from(compare(x, y) == Comparison::Equal)
 }
 
 fn compare_sheets(first: &[u8], second: &[u8]) -> Result<usize, Obstacle>
     ensures { Compares (schedule_of first.now) (schedule_of second.now) (reply_to result) }
 {
-    let x = match schedule_in(first) {
-        Ok(schedule) => schedule,
-        Err(fault) => return Err(Obstacle::First(fault)),
-    };
-    match schedule_in(second) {
-        Ok(y) => Ok(verdict(&x, &y)),
-        Err(fault) => Err(Obstacle::Second(fault)),
-    }
+    let x = schedule_in(first).map_err(Obstacle::First)?;
+    let y = schedule_in(second).map_err(Obstacle::Second)?;
+    Ok(verdict(&x, &y))
 }
 
 /// Compares the schedules of two sheets: the count is 1 where they are equal, which is where no lawful profile that is longer
@@ -56,7 +46,7 @@ fn compare_sheets(first: &[u8], second: &[u8]) -> Result<usize, Obstacle>
 pub fn hekudoja_compare(first: &[u8], second: &[u8]) -> Reply
     ensures { Compares (schedule_of first.now) (schedule_of second.now) result }
 {
-    reply_to(compare_sheets(first, second))
+    Reply::from(compare_sheets(first, second))
 }
 
 fn rewrite(sheet: &[u8], out: &mut [u8]) -> Result<usize, Obstacle>
@@ -64,14 +54,8 @@ fn rewrite(sheet: &[u8], out: &mut [u8]) -> Result<usize, Obstacle>
     ensures writes { out.new ≡ (rewritten (schedule_of sheet.now) out.old).1 }
     ensures back { IfOk result (λ n. schedule_of (take n out.new) ≡ schedule_of sheet.now) }
 {
-    let schedule = match schedule_in(sheet) {
-        Ok(schedule) => schedule,
-        Err(fault) => return Err(Obstacle::First(fault)),
-    };
-    match write_schedule(&schedule, out) {
-        Ok(size) => Ok(size),
-        Err(_) => Err(Obstacle::Room),
-    }
+    let schedule = schedule_in(sheet).map_err(Obstacle::First)?;
+    write_schedule(&schedule, out).map_err(|_| Obstacle::Room)
 }
 
 /// Writes the sheet of the same schedule, with reduced weights, into the front of `out`, and counts its bytes. The sheet
@@ -81,5 +65,5 @@ pub fn hekudoja_reduce_schedule(sheet: &[u8], out: &mut [u8]) -> Reply
     ensures writes { out.new ≡ (rewritten (schedule_of sheet.now) out.old).1 }
     ensures back { result.refusal ≡ 0 → schedule_of (take result.count out.new) ≡ schedule_of sheet.now }
 {
-    reply_to(rewrite(sheet, out))
+    Reply::from(rewrite(sheet, out))
 }

@@ -7,14 +7,15 @@ ghost use Rattle.sheets.specs.ScheduleSheets.{schedule_of};
 ghost use Rattle.embedding.specs.Replies.{reply_to};
 ghost use Rattle.embedding.specs.Tallies.{turn_counts, tallied};
 
-use crate::reading::schedule_in;
-use crate::replies::{Obstacle, Reply, reply_to};
+use crate::replies::{Obstacle, Reply};
+use command::reading::schedule_in;
 use levels::walks::Walk;
+use samples::limits::MOST_HEIGHTS;
 use samples::turns::find;
 use scale_space::turns::{Turn, TurnKind};
 
 /// How many turns the walk's level has. The table has a place for each sample, so all are found.
-fn count_here(walk: &Walk, table: &mut [Turn; 2048]) -> u64
+fn count_here(walk: &Walk, table: &mut [Turn; MOST_HEIGHTS]) -> u64
     ensures { result ≡ turn_count (come_to walk.now) }
 {
     let Ok(count) = find(walk.numerators(), table) else {
@@ -23,24 +24,20 @@ fn count_here(walk: &Walk, table: &mut [Turn; 2048]) -> u64
     count as u64
 }
 
-/// Puts the number of turns of each level into the front of `counts`, and answers how many levels there are.
-fn put_counts(walk: &mut Walk, counts: &mut [u64]) -> usize
+/// Puts the number of turns of each level into its place of `counts`. At the last level the walk stays.
+fn put_counts(walk: &mut Walk, counts: &mut [u64])
     requires start { walk.old.level ≡ 0 }
-    requires room { walk.old.last < length counts.old }
-    ensures { (ps : List Pass) (hs : List ℤ) → At walk.old ps (length ps) 0 hs → (result ≡ suc (length ps)) × (counts.new ≡ turn_counts ps hs (suc (length ps)) ++ drop result counts.old) }
+    requires all { length counts.old ≡ suc walk.old.last }
+    ensures { (ps : List Pass) (hs : List ℤ) → At walk.old ps (length ps) 0 hs → counts.new ≡ turn_counts ps hs (suc (length ps)) }
 {
     let mut table = [Turn {
         kind: TurnKind::Ridge,
         place: 0,
         numerator: 0,
-    }; 2048];
-    let mut at = 0;
-    loop {
-        counts[at] = count_here(walk, &mut table);
-        at += 1;
-        if !walk.step() {
-            return at;
-        }
+    }; MOST_HEIGHTS];
+    for count in counts.iter_mut() {
+        *count = count_here(walk, &mut table);
+        walk.step();
     }
 }
 
@@ -48,19 +45,15 @@ fn tally(schedule: &[u8], heights: &[i64], counts: &mut [u64]) -> Result<usize, 
     ensures answers { result ≡ (tallied (schedule_of schedule.now) heights.now counts.old).0 }
     ensures writes { counts.new ≡ (tallied (schedule_of schedule.now) heights.now counts.old).1 }
 {
-    let built = match schedule_in(schedule) {
-        Ok(built) => built,
-        Err(fault) => return Err(Obstacle::First(fault)),
-    };
+    let built = schedule_in(schedule).map_err(Obstacle::First)?;
     let last = built.len();
-    let mut walk = match Walk::new(&built, last, heights) {
-        Ok(walk) => walk,
-        Err(why) => return Err(Obstacle::Draw(why)),
-    };
-    if counts.len() <= last {
+    let mut walk = Walk::new(&built, last, heights)?;
+    let levels = last + 1;
+    if counts.len() < levels {
         return Err(Obstacle::Room);
     }
-    Ok(put_counts(&mut walk, counts))
+    put_counts(&mut walk, &mut counts[0..levels]);
+    Ok(levels)
 }
 
 /// Counts the turns of every level of the schedule that a sheet gives, level 0 first, into the front of `counts`, and answers how
@@ -70,5 +63,5 @@ pub fn hekudoja_count_turns(schedule: &[u8], heights: &[i64], counts: &mut [u64]
     ensures writes { counts.new ≡ (tallied (schedule_of schedule.now) heights.now counts.old).1 }
     ensures falling { (k : ℕ) → suc k < result.count → slice_index counts.new (suc k) ≤ slice_index counts.new k }
 {
-    reply_to(tally(schedule, heights, counts))
+    Reply::from(tally(schedule, heights, counts))
 }

@@ -12,10 +12,10 @@ use std::io::Read;
 fn read_all(rt: &impl Input, buffer: &mut [u8]) -> io::Result<usize>
     ensures { IfOk result (λ n. n ≤ length buffer.old) }
 {
+    // `read_to_end` would need a heap, and `read_exact` does not tell how much there was.
     let mut reader = rt.reader();
     let mut size = 0;
-    // Each turn reads a byte at least.
-    for _ in 0..buffer.len() {
+    while size < buffer.len() {
         let got = reader.read(&mut buffer[size..])?;
         if got == 0 {
             break;

@@ -1,13 +1,18 @@
 -- Where an input is parted.
-use Rattle.std.proofs.Common.{arith, rules}
-use Rattle.command.proofs.Partings.{parting_more, parting_found, parting_none}
+use Rattle.std.proofs.Common.{◌≡◌, true, false, Some, None, rules, arith}
+use Rattle.std.proofs.lemmas.Iterator.{first_from_Range}
+use Rattle.command.specs.Parting.{empty_at}
+use Rattle.command.proofs.Partings.{parted_first, parted_none}
 use Rattle.command.proofs.parting.part.Goals as goal
 
-pub returns-then-ends : goal.returns-then-ends
-returns-then-ends c = parting_found c.args.input.now c.loop-i.fresh c.loop-i.i c.loop-i.invariant c.loop-i-test.true (search rules)
+pub returns-in-None : goal.returns-in-None
+returns-in-None c =
+    let bs = c.args.input.now in
+    let off = first_from_Range _ _ _ None (λ k. empty_at bs k ≡ true) (λ k. empty_at bs k ≡ false) c.in-None.ensures.ran (λ x q h. search rules) (λ x q h. search rules) in
+    parted_none bs (λ k l. off k (omega arith) l)
 
-pub loop-i-preserved : goal.loop-i-preserved
-loop-i-preserved c = parting_more c.args.input.now c.loop-i.fresh c.loop-i.i c.loop-i.invariant c.loop-i-test.true (search rules)
-
-pub returns : goal.returns
-returns c = parting_none c.args.input.now c.loop-i.fresh c.loop-i.i c.loop-i.invariant (omega arith)
+pub returns-in-Some : goal.returns-in-Some
+returns-in-Some c =
+    let bs = c.args.input.now in
+    let here = first_from_Range _ _ _ (Some c.in-Some.i) (λ k. empty_at bs k ≡ true) (λ k. empty_at bs k ≡ false) c.in-Some.ensures.ran (λ x q h. search rules) (λ x q h. search rules) in
+    parted_first bs c.in-Some.i here.1 here.2 (λ k l. here.3 k (omega arith) l)

@@ -7,5 +7,5 @@ use Rattle.embedding.proofs.turn_calls.hekudoja_count_turns.Goals as goal
 pub returns : goal.returns
 returns c =
     let e = c.tally.ensures in
-    let a = c.reply_to.ensures ∙ ap reply_to e.answers in
+    let a = c.from.ensures ∙ ap reply_to e.answers in
     record { answers = a; writes = e.writes; falling = replied_falls c.args.schedule.now c.args.heights.now c.args.counts.now _ _ (ap (λ r. r.count) a) e.writes }

@@ -1,19 +1,17 @@
-//! Schedule sheets, read.
+//! The schedule of a sheet.
 ghost use Rattle.std.specs.Prelude.{◌≡◌};
 ghost use Rattle.sheets.specs.ScheduleSheets.{schedule_of};
-ghost use Rattle.embedding.specs.Sheets.{standing_in};
+ghost use Rattle.command.specs.Reading.{standing_in};
 
 use schedule::schedules::Schedule;
 use sheets::faults::SheetFault;
 use sheets::schedule_sheets::read_schedule;
 
-/// The schedule of a sheet.
+/// The schedule that a sheet gives, built from an empty one.
 pub fn schedule_in(sheet: &[u8]) -> Result<Schedule, SheetFault>
     ensures { standing_in result ≡ schedule_of sheet.now }
 {
     let mut schedule = Schedule::new();
-    match read_schedule(sheet, &mut schedule) {
-        Ok(_) => Ok(schedule),
-        Err(fault) => Err(fault),
-    }
+    read_schedule(sheet, &mut schedule)?;
+    Ok(schedule)
 }
