@@ -4,7 +4,7 @@ use Rattle.std.specs.List.{AllByRecursion}
 use Rattle.std.proofs.lemmas.Fmt.{length-decimal-le}
 use Rattle.std.proofs.ByRecursion.{All-append, All-push}
 use Rattle.std.proofs.lemmas.List.{length-append, length_push, take_at}
-use Rattle.std.proofs.lemmas.Bool.{and_parts, eqb-true, ltb-true, cond-true, cond-false, cases_Bool}
+use Rattle.std.proofs.lemmas.Bool.{and_parts, lt-ltb, eqb-true, ltb-true, cond-true, cond-false, cases_Bool}
 use Rattle.scale_space.specs.declared.passes.Pass.{Pass}
 use Rattle.scale_space.specs.declared.passes.Pass.TheVariants.{Pair, Triple}
 use Rattle.scale_space.specs.Taps.{scale}
@@ -18,7 +18,6 @@ use Rattle.schedule.specs.Making.{made}
 use Rattle.schedule.specs.Calls.{added, replaced}
 use Rattle.schedule.specs.Standing.{Standing}
 use Rattle.schedule.proofs.Lists.{product_of_append}
-use Rattle.schedule.proofs.Lowest.{made_is}
 use Rattle.schedule.proofs.Meaning.{range_means, proper_test}
 use Rattle.schedule.proofs.Standing.{ends_standing}
 use Rattle.sheets.specs.declared.faults.SheetFault.{SheetFault}
@@ -124,7 +123,7 @@ joined_is k ps qs (Some p) e = go (made p) refl e
 
 made_same : (p : Pass) → Proper p → made p ≡ Ok p
 unfolding proper
-made_same p h = sym (made_is p p (sym (lowest_is p h.reduced)) (and_parts (in_range (weights p)) _ (proper_test p h)).0 h.some h.admissible)
+made_same p h = rw ((and_parts (in_range (weights p)) _ (proper_test p h)).0, lt-ltb 0 (scale (weights p)) h.some, h.admissible) (ap Ok (lowest_is p h.reduced))
 
 line_back : (k : ℕ) (ps : List Pass) (p : Pass) → Standing (ps ++ p ∷ []) → with_pass k ps (cut 44 (pass_line k p)) ≡ Ok (ps ++ p ∷ [])
 line_back k ps p h =
