@@ -1,5 +1,5 @@
-pub mod Squares
 pub mod Halves
 pub mod Standing
 pub mod Taking
 pub mod Verdict
+pub mod Order

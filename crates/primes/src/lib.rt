@@ -3,7 +3,6 @@
 
 pub mod comparing;
 pub mod laws;
-mod order;
 pub mod roots;
 mod splitting;
 pub mod tables;

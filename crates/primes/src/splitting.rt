@@ -18,6 +18,7 @@ fn reduced_pair(a: u32, b: u32) -> Pass
 }
 
 /// The two pairs of a triple whose b² - 4ac is s². Piled they give the triple back.
+#[tactic(auto, using(crate::proofs::Halves::end_some))]
 pub(crate) fn split(a: u32, b: u32, c: u32, s: u32) -> (Pass, Pass)
     requires small { (b ≤ 1000) × (c ≤ 1000) }
     requires reduced { Reduced (a ∷ b ∷ c ∷ []) }

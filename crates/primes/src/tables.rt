@@ -1,5 +1,6 @@
 //! The prime table of a schedule. It is held inline, so that nothing about it can fail for want of memory.
 ghost use Rattle.std.specs.Prelude.{◌≤◌, length};
+ghost use Rattle.primes.specs.Order.{InOrder};
 ghost use Rattle.fixed_list.specs.Listed.{listed};
 ghost use Rattle.primes.specs.Counts.{counted};
 
@@ -13,6 +14,7 @@ pub mod building;
 #[derive(Clone, Copy, PartialEq)]
 pub struct PrimeTable {
     list: FixedList<PrimeCount, 48>,
+    ghost ordered: { InOrder (listed list) },
     ghost some: { length (listed list) ≤ counted (listed list) },
     ghost bounded: { counted (listed list) ≤ 48 },
 }

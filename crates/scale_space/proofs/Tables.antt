@@ -64,7 +64,7 @@ after_added q (r ∷ rs) p b (h, k) =
     let ih = after_added q rs p b k in
     by_ways (After q) r rs p (λ _. (h, ih)) (λ _ _. (h, k)) (λ _ _. (b, (h, k)))
 
-ordered_added : (rs : List PrimeCount) (p : Pass) → Ordered rs → Ordered (added rs p)
+pub ordered_added : (rs : List PrimeCount) (p : Pass) → Ordered rs → Ordered (added rs p)
 ordered_added [] p h = (tt, tt)
 ordered_added (r ∷ rs) p (h, k) =
     let ih = ordered_added rs p k in

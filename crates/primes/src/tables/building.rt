@@ -1,14 +1,14 @@
 //! How a prime table is built, and read.
-ghost use Rattle.std.specs.Prelude.{◌≡◌, ◌<◌, ◌≤◌, [], length, get_or, Decides, fold, slice_index_or, slice_set};
-ghost use Rattle.std.specs.List.{prefix_len, insert};
+ghost use Rattle.std.specs.Prelude.{◌≡◌, ◌<◌, ◌≤◌, [], length, IfOk, IfErr, fold, slice_index_or, slice_set};
+ghost use Rattle.std.specs.List.{insert};
+ghost use Rattle.std.specs.List.Sorted.{IsSearchInRange};
 ghost use Rattle.scale_space.specs.Passes.{Proper, taps};
 ghost use Rattle.scale_space.specs.Primes.{factors, primes, Factored};
-ghost use Rattle.scale_space.specs.Tables.{before, single, raised, added, table, Tabulates};
+ghost use Rattle.scale_space.specs.Tables.{single, raised, added, table, Tabulates};
 ghost use Rattle.schedule.specs.Calls.{passes};
 ghost use Rattle.primes.specs.Counts.{counted, blank};
 ghost use Rattle.primes.specs.Entries.{entries};
 
-use crate::order::is_before;
 use crate::roots::root;
 use crate::splitting::split;
 use crate::tables::PrimeTable;
@@ -30,42 +30,14 @@ impl PrimeTable {
         }
     }
 
-    /// How many records come before `prime`.
-    fn place(&self, prime: Pass) -> usize
-        ensures { result ≡ prefix_len (λ e. before e.prime prime) (entries self.now) }
+    /// Where the record of `prime` is, or else where one is to go.
+    fn find(&self, prime: Pass) -> Result<usize, usize>
+        ensures range { IsSearchInRange result (length (entries self.now)) }
+        ensures is_there { IfOk result (λ k. added (entries self.now) prime ≡ slice_set (entries self.now) k (raised (slice_index_or (entries self.now) k blank))) }
+        ensures is_new { IfErr result (λ k. added (entries self.now) prime ≡ insert (entries self.now) k (single prime)) }
     {
         self.as_slice()
-            .iter()
-            .take_while(|record| is_before(record.prime, prime))
-            .count()
-    }
-
-    /// Whether the record at a place is that of `prime`.
-    fn stands(&self, place: usize, prime: Pass) -> bool
-        ensures { Decides result ((place < length (entries self.now)) × ((get_or (entries self.now) place blank).prime ≡ prime)) }
-    {
-        let all = self.as_slice();
-        place < all.len() && all[place].prime == prime
-    }
-
-    /// Raises the count at a place by one.
-    fn raise(&mut self, place: usize)
-        requires place { place < length (entries self.old) }
-        requires room { counted (entries self.old) < 48 }
-        ensures { entries self.new ≡ slice_set (entries self.old) place (raised (slice_index_or (entries self.old) place blank)) }
-    {
-        let mut record = self.as_slice()[place];
-        record.count += 1;
-        self.list.set(place, record);
-    }
-
-    /// Puts a record for a first `prime` at a place, and moves the later ones up.
-    fn insert(&mut self, place: usize, prime: Pass)
-        requires place { place ≤ length (entries self.old) }
-        requires room { counted (entries self.old) < 48 }
-        ensures { entries self.new ≡ insert (entries self.old) place (single prime) }
-    {
-        self.list.insert(place, PrimeCount { prime, count: 1 });
+            .binary_search_by_key(&prime, |record| record.prime)
     }
 
     /// Counts one more `prime`.
@@ -73,15 +45,18 @@ impl PrimeTable {
         requires { counted (entries self.old) < 48 }
         ensures { entries self.new ≡ added (entries self.old) prime }
     {
-        let place = self.place(prime);
-        if self.stands(place, prime) {
-            self.raise(place);
-        } else {
-            self.insert(place, prime);
+        match self.find(prime) {
+            Ok(place) => {
+                let mut record = self.as_slice()[place];
+                record.count += 1;
+                self.list.set(place, record);
+            }
+            Err(place) => self.list.insert(place, PrimeCount { prime, count: 1 }),
         }
     }
 
     /// Counts the primes of a pass: a triple is two pairs where b² - 4ac is a square, and else a prime itself.
+    #[tactic(auto, using(crate::proofs::Taking::proper_reduced, scale_space::proofs::Entries::counted_added))]
     fn take(&mut self, pass: Pass)
         requires proper { Proper pass }
         requires room { counted (entries self.old) ≤ 46 }
@@ -104,6 +79,7 @@ impl PrimeTable {
     }
 
     /// The prime table of a schedule. Its primes, piled as often as it says, have the schedule's taps.
+    #[tactic(auto, using(scale_space::proofs::Factors::primes_factored))]
     pub fn of(schedule: &Schedule) -> PrimeTable
         ensures is { entries result ≡ table (passes schedule.now) }
         ensures tabulates { Tabulates (primes (passes schedule.now)) (entries result) }
