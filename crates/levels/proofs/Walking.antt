@@ -71,10 +71,10 @@ way_proper w = All-take Proper w.last (passes w.schedule) (standing w.schedule).
 room_for : (w : Walk) (k : ℕ) → 1 ≤ product (drop k (way w))
 room_for w k = product_some (drop k (way w)) (All-drop Proper k (way w) (way_proper w))
 
-pub scale_is_lawful : (w : Walk) → scale_lawful w.scale ≡ true
+pub scale_is_lawful : (w : Walk) → scale_lawful w.drawn.scale ≡ true
 scale_is_lawful w =
-    let small : w.scale ≤ 2 ^ 40 = omega (arith, w.bounded, mul-le-mul_left w.scale (room_for w w.level)) in
-    and_from _ _ (le-leb 1 w.scale w.some) (le-leb w.scale (2 ^ 40) small)
+    let small : w.drawn.scale ≤ 2 ^ 40 = omega (arith, w.bounded, mul-le-mul_left w.drawn.scale (room_for w w.level)) in
+    and_from _ _ (le-leb 1 w.drawn.scale w.some) (le-leb w.drawn.scale (2 ^ 40) small)
 
 -- ---- one of them
 module _ (w : Walk) (more : w.level < w.last) (ps : List Pass) (same : ps ≡ passes w.schedule) where
@@ -97,33 +97,33 @@ module _ (w : Walk) (more : w.level < w.last) (ps : List Pass) (same : ps ≡ pa
   pub pass_heavy : 1 ≤ scale (weights p)
   pass_heavy = proper.some
 
-  pub pass_long : length (weights p) ≤ w.count
+  pub pass_long : length (weights p) ≤ w.drawn.length
   pass_long = omega (arith, w.long, ap reach first, weights_some p)
 
-  room : w.scale * (scale (weights p) * product (drop (w.level + 1) (way w))) ≤ 2 ^ 40
+  room : w.drawn.scale * (scale (weights p) * product (drop (w.level + 1) (way w))) ≤ 2 ^ 40
   room = rw first at w.bounded
 
-  pub pass_bounded : w.scale * scale (weights p) ≤ 2 ^ 40
-  pass_bounded = omega (arith, room, mul-le-mul_left (w.scale * scale (weights p)) (room_for w (w.level + 1)))
+  pub pass_bounded : w.drawn.scale * scale (weights p) ≤ 2 ^ 40
+  pass_bounded = omega (arith, room, mul-le-mul_left (w.drawn.scale * scale (weights p)) (room_for w (w.level + 1)))
 
   held : Within (negsuc 99999) (pos 100000) (come_to w)
-  held = fit_within w.scale (take w.count w.samples) w.fit
+  held = fit_within w.drawn.scale (take w.drawn.length w.samples) w.fit
 
-  pub pass_light : Light (scale (weights p)) (take w.count w.samples)
+  pub pass_light : Light (scale (weights p)) (take w.drawn.length w.samples)
   pass_light = within_light (come_to w) (scale (weights p)) pass_bounded held
 
   -- laid on the level, it answered r and left `new` in the buffer
-  module _ (r : Drawn) (new : List ℤ) (shorter : r.length + length (weights p) ≡ w.count + 1) (larger : r.scale ≡ w.scale * scale (weights p)) (places : new ≡ laid w.count (windows (weights p) (take w.count w.samples)) w.samples) where
+  module _ (r : Drawn) (new : List ℤ) (shorter : r.length + length (weights p) ≡ w.drawn.length + 1) (larger : r.scale ≡ w.drawn.scale * scale (weights p)) (places : new ≡ laid w.drawn.length (windows (weights p) (take w.drawn.length w.samples)) w.samples) where
     abbrev next : Level
     next = weighed (weights p) (come_to w)
 
     count : r.length ≡ length next.numerators
     count =
-        let n = length-take-le w.count w.samples (omega (arith, w.full, w.short)) in
-        omega (arith, n, shorter, pass_count p (take w.count w.samples) (omega (arith, n, pass_long)))
+        let n = length-take-le w.drawn.length w.samples (omega (arith, w.full, w.short)) in
+        omega (arith, n, shorter, pass_count p (take w.drawn.length w.samples) (omega (arith, n, pass_long)))
 
     front : take r.length new ≡ next.numerators
-    front = ap₂ take count places ∙ take_laid w.count next.numerators w.samples
+    front = ap₂ take count places ∙ take_laid w.drawn.length next.numerators w.samples
 
     pub pass_stepped : (v : Walk) → v.schedule ≡ w.schedule → v.last ≡ w.last → v.level ≡ w.level + 1 → come_to v ≡ record { numerators = take r.length new; scale = r.scale } → Stepped w true v
     pass_stepped v by to so_far e = record {

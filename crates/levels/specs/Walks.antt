@@ -11,7 +11,7 @@ use Rattle.levels.specs.Drawing.{allowed}
 
 -- the level that it holds
 abbrev pub come_to : Walk → Level
-come_to w = record { numerators = take w.count w.samples; scale = w.scale }
+come_to w = record { numerators = take w.drawn.length w.samples; scale = w.drawn.scale }
 
 -- on its way up the passes ps to level `last`, it has come to level k of the profile hs, and holds what draw gives there
 pub record At (w : Walk) (ps : List Pass) (last k : ℕ) (hs : List ℤ) : Type 0 where

@@ -45,11 +45,15 @@ fn reach_of(passes: &[Pass]) -> usize
 }
 
 /// Whether level k can be drawn, and if not, why not.
-pub(crate) fn check(passes: &[Pass], k: usize, profile: &[i64], room: usize) -> Result<(), Refusal>
-    requires { length passes.now ≤ 24 }
-    ensures { result ≡ allowed passes.now k profile.now room }
+pub(crate) fn check(
+    schedule: &Schedule,
+    k: usize,
+    profile: &[i64],
+    room: usize,
+) -> Result<(), Refusal>
+    ensures { result ≡ allowed (passes schedule.now) k profile.now room }
 {
-    if k > passes.len() {
+    if k > schedule.len() {
         return Err(Refusal::NoSuchPlace);
     }
     if profile.is_empty() || profile.len() > MOST_HEIGHTS {
@@ -58,7 +62,7 @@ pub(crate) fn check(passes: &[Pass], k: usize, profile: &[i64], room: usize) -> 
     if !are_lawful(profile) {
         return Err(Refusal::HeightOutOfRange);
     }
-    if profile.len() <= reach_of(&passes[0..k]) {
+    if profile.len() <= reach_of(&schedule.as_slice()[0..k]) {
         return Err(Refusal::TooFewSamples);
     }
     if room < profile.len() {
@@ -146,25 +150,6 @@ fn lay_all(passes: &[Pass], work: &mut [i64], n: usize) -> Drawn
     last
 }
 
-/// `draw`, on the passes that stand in the schedule, and less the law that it carries.
-fn draw_passes(
-    passes: &[Pass],
-    k: usize,
-    profile: &[i64],
-    work: &mut [i64],
-) -> Result<Drawn, Refusal>
-    requires short { length passes.now ≤ 24 }
-    requires proper { AllByRecursion Proper passes.now }
-    requires bounded { product passes.now ≤ 2 ^ 40 }
-    ensures answer { result ≡ drawn passes.now k profile.now (length work.old) }
-    ensures places { work.new ≡ worked result (length profile.now) (level (take k passes.now) profile.now).numerators work.old }
-{
-    check(passes, k, profile, work.len())?;
-    begin(profile, work);
-    let n = profile.len();
-    Ok(lay_all(&passes[0..k], work, n))
-}
-
 /// Draws level k of a schedule from a profile, exactly and in place: `work` then begins with the level's numerators, followed
 /// by 0 up to the profile's length, and is unchanged from there on. Answers the level's length and scale; a refusal leaves
 /// `work` as it was. Whatever the profile, from each level to the next and at the rounding of a level, neither the turns nor
@@ -179,5 +164,7 @@ pub fn draw(
     ensures places { work.new ≡ worked result (length profile.now) (level (take k (passes schedule.now)) profile.now).numerators work.old }
     ensures calm { (hs : List ℤ) → Calm (passes schedule.now) hs }
 {
-    draw_passes(schedule.as_slice(), k, profile, work)
+    check(schedule, k, profile, work.len())?;
+    begin(profile, work);
+    Ok(lay_all(&schedule.as_slice()[0..k], work, profile.len()))
 }

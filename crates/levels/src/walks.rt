@@ -5,26 +5,27 @@ ghost use Rattle.scale_space.specs.Passes.{reach, product};
 ghost use Rattle.samples.specs.Answers.{heights_fit};
 ghost use Rattle.schedule.specs.Calls.{passes};
 
+use crate::draw::Drawn;
 use schedule::schedules::Schedule;
 
 pub mod reading;
 pub mod steps;
 
-/// It has come to `level`, and may go up to `last`. The level's numerators are the first `count` samples. For the passes that
-/// are still ahead there are samples enough, and the scale has room.
+/// It has come to `level`, and may go up to `last`. The level's numerators are the first of the samples, as many as `drawn`
+/// says. For the passes that are still ahead there are samples enough, and the scale has room.
+// A level is laid in place, in a slice that can be written to, and a `FixedList` lends none: the samples stay an array.
 #[derive(Drop)]
 pub struct Walk {
     schedule: Schedule,
     last: usize,
     level: usize,
     samples: [i64; 2048],
-    count: usize,
-    scale: u64,
+    drawn: Drawn,
     ghost full: { length samples ≡ 2048 },
-    ghost short: { count ≤ 2048 },
+    ghost short: { drawn.length ≤ 2048 },
     ghost inside: { last ≤ length (passes schedule) },
-    ghost long: { reach (drop level (take last (passes schedule))) < count },
-    ghost some: { 1 ≤ scale },
-    ghost bounded: { scale * product (drop level (take last (passes schedule))) ≤ 2 ^ 40 },
-    ghost fit: { heights_fit scale (take count samples) ≡ true },
+    ghost long: { reach (drop level (take last (passes schedule))) < drawn.length },
+    ghost some: { 1 ≤ drawn.scale },
+    ghost bounded: { drawn.scale * product (drop level (take last (passes schedule))) ≤ 2 ^ 40 },
+    ghost fit: { heights_fit drawn.scale (take drawn.length samples) ≡ true },
 }

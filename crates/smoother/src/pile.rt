@@ -21,14 +21,7 @@ impl<A: Smoother + Drop, B: Smoother + Drop> Pile<A, B> {
         ensures answer { result ≡ stacked (A.Smoother.taps first) (B.Smoother.taps second) (record { first = first; second = second }) }
         ensures taps { IfOk result (λ p. piled (A.Smoother.taps p.first) (B.Smoother.taps p.second) ≡ conv (A.Smoother.taps first) (B.Smoother.taps second)) }
     {
-        let a = first.show();
-        let b = second.show();
-        if !a.scales_fit(&b) {
-            return Err(Refusal::ScaleTooLarge);
-        }
-        if !a.reaches_fit(&b) {
-            return Err(Refusal::ReachTooLong);
-        }
+        first.show().fits(&second.show())?;
         Ok(Pile { first, second })
     }
 }
@@ -53,10 +46,9 @@ impl<A: Smoother, B: Smoother> Smoother for Pile<A, B> {
     fn show(&self) -> TapList {
         let a = self.first.show();
         let b = self.second.show();
-        if a.scales_fit(&b) && a.reaches_fit(&b) {
-            a.pile(&b)
-        } else {
-            TapList::one()
+        match a.fits(&b) {
+            Ok(()) => a.pile(&b),
+            Err(_) => TapList::one(),
         }
     }
 }

@@ -18,7 +18,7 @@ impl Walk {
         ensures value { result ≡ (come_to self.now).scale }
         ensures lawful { scale_lawful result ≡ true }
     {
-        self.scale
+        self.drawn.scale
     }
 
     /// The level's numerators.
@@ -28,6 +28,6 @@ impl Walk {
         ensures some { 1 ≤ length result.now }
         ensures short { length result.now ≤ 2048 }
     {
-        &self.samples[0..self.count]
+        &self.samples[0..self.drawn.length]
     }
 }

@@ -15,8 +15,8 @@ impl Walk {
     pub fn new(schedule: &Schedule, last: usize, profile: &[i64]) -> Result<Walk, Refusal>
         ensures { SetOut result (passes schedule.now) last profile.now }
     {
-        let count = profile.len();
-        check(schedule.as_slice(), last, profile, count)?;
+        let length = profile.len();
+        check(schedule, last, profile, length)?;
         let mut samples = [0; 2048];
         begin(profile, &mut samples);
         Ok(Walk {
@@ -24,8 +24,7 @@ impl Walk {
             last,
             level: 0,
             samples,
-            count,
-            scale: 1,
+            drawn: Drawn { length, scale: 1 },
         })
     }
 
@@ -38,14 +37,8 @@ impl Walk {
             return false;
         }
         let pass = self.schedule.as_slice()[self.level];
-        let from = Drawn {
-            length: self.count,
-            scale: self.scale,
-        };
-        let to = lay(pass, from, &mut self.samples);
+        self.drawn = lay(pass, self.drawn, &mut self.samples);
         self.level += 1;
-        self.count = to.length;
-        self.scale = to.scale;
         true
     }
 

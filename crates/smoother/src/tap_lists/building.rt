@@ -3,12 +3,13 @@ ghost use Rattle.std.specs.Prelude.{◌≡◌, ◌+◌, ◌*◌, ◌^◌, ◌≤
 ghost use Rattle.scale_space.specs.Taps.{dot, scale, conv};
 ghost use Rattle.smoother.specs.Answers.{weighable};
 ghost use Rattle.smoother.specs.TapLists.{shown};
-ghost use Rattle.smoother.specs.Piled.{scales_fit, reaches_fit};
+ghost use Rattle.smoother.specs.Piled.{stacked};
 
 use crate::sums::tap;
 use crate::tap_lists::TapList;
 use fixed_list::FixedList;
 use samples::limits::LARGEST_SCALE;
+use samples::refusals::Refusal;
 
 /// The longest reach of a smoother.
 const LONGEST_REACH: usize = 48;
@@ -73,20 +74,19 @@ impl TapList {
         total
     }
 
-    /// Whether the scale of the two piled is within the limit.
-    pub(crate) fn scales_fit(&self, other: &TapList) -> bool
-        requires { 1 ≤ scale (shown other.now) }
-        ensures { result ≡ scales_fit (shown self.now) (shown other.now) }
+    /// Whether these taps can be piled with others, and if not, why not.
+    pub(crate) fn fits(&self, other: &TapList) -> Result<(), Refusal>
+        requires some { (1 ≤ length (shown self.now)) × (1 ≤ length (shown other.now)) }
+        requires heavy { 1 ≤ scale (shown other.now) }
+        ensures { result ≡ stacked (shown self.now) (shown other.now) tt }
     {
-        self.sum() <= LARGEST_SCALE / other.sum()
-    }
-
-    /// Whether the reach of the two piled is within the limit.
-    pub(crate) fn reaches_fit(&self, other: &TapList) -> bool
-        requires { (1 ≤ length (shown self.now)) × (1 ≤ length (shown other.now)) }
-        ensures { result ≡ reaches_fit (shown self.now) (shown other.now) }
-    {
-        (self.taps.len() - 1) + (other.taps.len() - 1) <= LONGEST_REACH
+        if self.sum() > LARGEST_SCALE / other.sum() {
+            return Err(Refusal::ScaleTooLarge);
+        }
+        if (self.taps.len() - 1) + (other.taps.len() - 1) > LONGEST_REACH {
+            return Err(Refusal::ReachTooLong);
+        }
+        Ok(())
     }
 
     /// These taps piled with others: these first, then the others.

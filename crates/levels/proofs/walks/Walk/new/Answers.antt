@@ -1,5 +1,5 @@
 -- What the check lets through is sound, and the profile is level 0.
-use Rattle.std.proofs.Common.{◌≡◌, length, Ok, sym, refl, ap, ◌∙◌, rules}
+use Rattle.std.proofs.Common.{◌≡◌, length, Ok, sym, refl, rules}
 use Rattle.schedule.specs.Calls.{passes}
 use Rattle.levels.specs.Drawing.{allowed}
 use Rattle.levels.proofs.Walking.{begun_sound, begun_held}
@@ -7,7 +7,7 @@ use Rattle.levels.proofs.walks.Walk.new.Goals as goal
 use Rattle.levels.proofs.walks.Walk.new.Goals.{After-begin}
 
 lets : (c : goal.After-begin) → allowed (passes c.args.schedule.now) c.args.last c.args.profile.now (length c.args.profile.now) ≡ Ok tt
-lets c = sym (c.in_ok-check.ensures ∙ ap (λ ps. allowed ps c.args.last c.args.profile.now (length c.args.profile.now)) c.as_slice.ensures.value)
+lets c = sym c.in_ok-check.ensures
 
 pub invariant_of-result : goal.invariant_of-result
 invariant_of-result c =

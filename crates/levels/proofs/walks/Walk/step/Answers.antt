@@ -3,8 +3,8 @@ use Rattle.std.proofs.Common.{◌≡◌, true, length, refl, arith, rules}
 use Rattle.levels.proofs.Walking.{pass_heavy, pass_long, pass_bounded, pass_light, pass_sound, pass_stepped, climbs}
 use Rattle.levels.proofs.walks.Walk.step.Goals as goal
 
-pub lay-to-requires : goal.lay-to-requires
-lay-to-requires c =
+pub lay-self-requires : goal.lay-self-requires
+lay-self-requires c =
     let w = c.args.self.now in
     let more = c.if-self.false in
     let ps = c.as_slice.result.now in
@@ -14,13 +14,13 @@ lay-to-requires c =
 pub invariant_of-self : goal.invariant_of-self
 invariant_of-self c =
     let w = c.args.self.now in
-    let l = c.lay-to.ensures in
-    let full : length c.lay-to.new.work ≡ length w.samples = search rules in
-    pass_sound w c.if-self.false c.as_slice.result.now c.as_slice.ensures.value c.lay-to.result c.lay-to.new.work l.shorter l.larger l.places full
+    let l = c.lay-self.ensures in
+    let full : length c.lay-self.new.work ≡ length w.samples = search rules in
+    pass_sound w c.if-self.false c.as_slice.result.now c.as_slice.ensures.value c.lay-self.result c.lay-self.new.work l.shorter l.larger l.places full
 
 pub returns : goal.returns
 returns c =
     let w = c.args.self.now in
-    let l = c.lay-to.ensures in
-    let stepped = pass_stepped w c.if-self.false c.as_slice.result.now c.as_slice.ensures.value c.lay-to.result c.lay-to.new.work l.shorter l.larger l.places in
+    let l = c.lay-self.ensures in
+    let stepped = pass_stepped w c.if-self.false c.as_slice.result.now c.as_slice.ensures.value c.lay-self.result c.lay-self.new.work l.shorter l.larger l.places in
     record { is = stepped _ refl refl refl refl; climbs = climbs w _ true (stepped _ refl refl refl refl) }
