@@ -2,6 +2,7 @@
 use Rattle.std.specs.Prelude.{◌≡◌, ℕ, ◌+◌, ◌≤◌, Bool, true, cond, ◌&&◌, List, [], ◌∷◌, ◌++◌, length, ℤ, Some, None, Ok, Err, codes, decimal, Option, Result, ◌==◌, nat_lt}
 use Rattle.std.specs.Fmt.{signed_decimal}
 use Rattle.std.specs.List.{AllByRecursion}
+use Rattle.arrayvec.specs.ArrayVec.{ArrayVec}
 use Rattle.samples.specs.Answers.{height_lawful}
 use Rattle.sheets.specs.declared.faults.SheetFault.{SheetFault}
 use Rattle.sheets.specs.declared.faults.SheetFault.TheVariants.{Malformed, Refused}
@@ -43,6 +44,11 @@ with_height k hs fields = pushed hs (height_at k fields)
 -- the heights of a profile sheet
 abbrev pub profile_of : List ℕ → Result (List ℤ) SheetFault
 profile_of bytes = sheet (codes "station,height") with_height bytes
+
+-- the heights that were read, if they were
+abbrev pub heights_in : Result (ArrayVec ℤ) SheetFault → Result (List ℤ) SheetFault
+heights_in (Ok hs) = Ok hs.items
+heights_in (Err e) = Err e
 
 -- the value line of station k, without its end
 abbrev pub height_line : ℕ → ℤ → List ℕ

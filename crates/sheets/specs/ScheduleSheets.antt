@@ -6,7 +6,8 @@ use Rattle.scale_space.specs.declared.passes.Pass.TheVariants.{Pair, Triple}
 use Rattle.scale_space.specs.Divisors.{Reduced}
 use Rattle.scale_space.specs.Passes.{weights}
 use Rattle.samples.specs.declared.refusals.Refusal.{Refusal}
-use Rattle.schedule.specs.Calls.{added}
+use Rattle.schedule.specs.declared.schedules.Schedule.{Schedule}
+use Rattle.schedule.specs.Calls.{passes, added}
 use Rattle.schedule.specs.Making.{made}
 use Rattle.schedule.specs.Standing.{Standing}
 use Rattle.sheets.specs.declared.faults.SheetFault.{SheetFault}
@@ -65,6 +66,11 @@ with_pass k ps fields = joining k ps (pass_of fields)
 -- the passes of a schedule sheet
 abbrev pub schedule_of : List ℕ → Result (List Pass) SheetFault
 schedule_of bytes = sheet (codes "taps,a,b,c") with_pass bytes
+
+-- the passes that stand in the schedule that was read, if one was
+abbrev pub standing_in : Result Schedule SheetFault → Result (List Pass) SheetFault
+standing_in (Ok s) = Ok (passes s)
+standing_in (Err e) = Err e
 
 -- how many passes were read
 abbrev pub counted : Result (List Pass) SheetFault → Result ℕ SheetFault

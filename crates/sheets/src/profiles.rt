@@ -3,7 +3,7 @@ ghost use Rattle.std.specs.Prelude.{◌≡◌, ◌^◌, ◌<◌};
 ghost use Rattle.std.specs.Option.{option_map, ok_or};
 ghost use Rattle.sheets.specs.declared.faults.SheetFault.TheVariants.{Malformed};
 ghost use Rattle.sheets.specs.Lines.{cut, answer};
-ghost use Rattle.sheets.specs.Profiles.{station_height, capped_both, accepted, height_at, with_height, profile_of, ExactProfile};
+ghost use Rattle.sheets.specs.Profiles.{station_height, capped_both, accepted, height_at, with_height, profile_of, heights_in, ExactProfile};
 
 use crate::faults::SheetFault;
 use crate::lines::{ReadsLines, after_names, put_in_front, split, walk};
@@ -55,15 +55,14 @@ impl ReadsLines for ArrayVec<i64, 2048> {
     }
 }
 
-/// The sheet is read into a table of its own, so that the caller's places are written only once all of it was found good.
-fn fill_profile(sheet: &[u8], heights: &mut [i64]) -> Result<usize, SheetFault>
-    ensures answers { result ≡ (answer (profile_of sheet.now) heights.old).0 }
-    ensures writes { heights.new ≡ (answer (profile_of sheet.now) heights.old).1 }
+/// The heights of a sheet.
+pub fn profile_in(sheet: &[u8]) -> Result<ArrayVec<i64, 2048>, SheetFault>
+    ensures { heights_in result ≡ profile_of sheet.now }
 {
     let rest = after_names(sheet, b"station,height")?;
-    let mut table = ArrayVec::<i64, 2048>::new();
-    walk(rest, &mut table)?;
-    put_in_front(table.as_slice(), heights)
+    let mut heights = ArrayVec::<i64, 2048>::new();
+    walk(rest, &mut heights)?;
+    Ok(heights)
 }
 
 /// Reads a profile sheet into the front of `heights`, and answers how many heights it has. A sheet gives heights just where
@@ -73,5 +72,6 @@ pub fn read_profile(sheet: &[u8], heights: &mut [i64]) -> Result<usize, SheetFau
     ensures writes { heights.new ≡ (answer (profile_of sheet.now) heights.old).1 }
     ensures exact { ExactProfile }
 {
-    fill_profile(sheet, heights)
+    // The caller's places are written only once all of the sheet was found good.
+    put_in_front(profile_in(sheet)?.as_slice(), heights)
 }

@@ -1,17 +1,15 @@
 //! Schedule sheets: a pass in each value line.
 ghost use Rattle.std.specs.Prelude.{◌≡◌, [], ◌∷◌, None, MatchOption};
 ghost use Rattle.std.specs.Option.{option_map, ok_or};
-ghost use Rattle.schedule.specs.Making.{made};
-ghost use Rattle.schedule.specs.Calls.{passes, Ends, added};
+ghost use Rattle.schedule.specs.Calls.{passes};
 ghost use Rattle.sheets.specs.declared.faults.SheetFault.TheVariants.{Malformed};
 ghost use Rattle.sheets.specs.Numbers.{natural};
 ghost use Rattle.sheets.specs.Lines.{cut};
-ghost use Rattle.sheets.specs.ScheduleSheets.{two, three, counts, pass_of, capped_pass, with_pass, schedule_of, counted, in_place_of};
+ghost use Rattle.sheets.specs.ScheduleSheets.{two, three, counts, pass_of, capped_pass, with_pass, schedule_of, standing_in, counted, in_place_of};
 
 use crate::faults::SheetFault;
 use crate::lines::{ReadsLines, after_names, split, walk};
 use crate::tokens::Token;
-use samples::refusals::Refusal;
 use scale_space::passes::Pass;
 use schedule::schedules::Schedule;
 
@@ -77,15 +75,6 @@ fn read_pass(text: &[u8], line: usize) -> Result<Pass, SheetFault>
     }
 }
 
-fn add(schedule: &mut Schedule, pass: Pass) -> Result<usize, Refusal>
-    ensures { Ends (added (passes schedule.old) (made pass)) result (passes schedule.new) }
-{
-    match pass {
-        Pass::Pair(a, b) => schedule.add_pair(a, b),
-        Pass::Triple(a, b, c) => schedule.add_triple(a, b, c),
-    }
-}
-
 impl ReadsLines for Schedule {
     type Value = Pass;
 
@@ -95,20 +84,26 @@ impl ReadsLines for Schedule {
 
     fn read_line(&mut self, line: &[u8], k: usize) -> Result<(), SheetFault> {
         let pass = read_pass(line, k + 2)?;
-        add(self, pass).map_err(|_| SheetFault::Refused { line: k + 2 })?;
+        self.add(pass).map_err(|_| SheetFault::Refused { line: k + 2 })?;
         Ok(())
     }
 }
 
-/// Reads a schedule sheet: its passes, added in order to an empty schedule, then stand in place of those in `schedule`. It
-/// answers how many they are.
-pub fn read_schedule(sheet: &[u8], schedule: &mut Schedule) -> Result<usize, SheetFault>
-    ensures answers { result ≡ counted (schedule_of sheet.now) }
-    ensures stands { passes schedule.new ≡ in_place_of (passes schedule.old) (schedule_of sheet.now) }
+/// The schedule of a sheet: its passes, added in order to an empty schedule.
+pub fn schedule_in(sheet: &[u8]) -> Result<Schedule, SheetFault>
+    ensures { standing_in result ≡ schedule_of sheet.now }
 {
     let rest = after_names(sheet, b"taps,a,b,c")?;
     let mut built = Schedule::new();
     walk(rest, &mut built)?;
-    *schedule = built;
-    Ok(built.len())
+    Ok(built)
+}
+
+/// Reads a schedule sheet: its passes then stand in place of those in `schedule`. It answers how many they are.
+pub fn read_schedule(sheet: &[u8], schedule: &mut Schedule) -> Result<usize, SheetFault>
+    ensures answers { result ≡ counted (schedule_of sheet.now) }
+    ensures stands { passes schedule.new ≡ in_place_of (passes schedule.old) (schedule_of sheet.now) }
+{
+    *schedule = schedule_in(sheet)?;
+    Ok(schedule.len())
 }

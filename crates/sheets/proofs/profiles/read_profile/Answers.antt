@@ -2,5 +2,8 @@
 use Rattle.sheets.proofs.ExactProfiles.{exact_profile}
 use Rattle.sheets.proofs.profiles.read_profile.Goals as goal
 
-pub returns : goal.returns
-returns c = record { answers = c.fill_profile.ensures.answers; writes = c.fill_profile.ensures.writes; exact = exact_profile }
+pub returns-in_err-profile_in-clause-exact : goal.returns-in_err-profile_in-clause-exact
+returns-in_err-profile_in-clause-exact c = exact_profile
+
+pub returns-clause-exact : goal.returns-clause-exact
+returns-clause-exact c = exact_profile

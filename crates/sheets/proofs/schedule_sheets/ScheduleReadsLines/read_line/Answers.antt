@@ -8,11 +8,11 @@ use Rattle.sheets.proofs.schedule_sheets.ScheduleReadsLines.read_line.Goals as g
 
 pub returns : goal.returns
 returns c =
-    line_added c.args.line.now c.args.k (passes c.args.self.now) (passes c.add.new.schedule) c.in_ok-pass.pass c.add.result (search rules) c.in_ok-pass.ensures c.requires.next c.add.ensures
+    line_added c.args.line.now c.args.k (passes c.args.self.now) (passes c.add.new.self) c.in_ok-pass.pass c.add.result (search rules) c.in_ok-pass.ensures c.requires.next c.add.ensures
 
 pub returns-in_err-map_err : goal.returns-in_err-map_err
 returns-in_err-map_err c =
     let p = err_from_is_err_and c.from_residual-in_err-map_err.result c.from_residual-in_err-map_err.ensures.1 in
     let e : c.in_err-map_err.field-0.0 ≡ Refused (c.args.k + 2) = search rules in
     rw (p.1, p.2, e)
-    (line_refused c.args.line.now c.args.k (passes c.args.self.now) (passes c.add.new.schedule) c.in_ok-pass.pass c.add.result (search rules) c.in_ok-pass.ensures c.add.ensures)
+    (line_refused c.args.line.now c.args.k (passes c.args.self.now) (passes c.add.new.self) c.in_ok-pass.pass c.add.result (search rules) c.in_ok-pass.ensures c.add.ensures)
