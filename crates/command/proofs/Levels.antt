@@ -23,7 +23,7 @@ last_low w = omega (arith, w.inside, (standing w.schedule).short)
 
 pub text_short : (w : Walk) → w.level ≤ 24 → length (text w) ≤ 47128
 text_short w low =
-    let few : length (take w.count w.samples) ≤ 2048 = omega (arith, length-take w.count w.samples, w.short) in
+    let few : length (take w.drawn.length w.samples) ≤ 2048 = omega (arith, length-take w.drawn.length w.samples, w.short) in
     omega (arith, few, listing_bound w.level (come_to w) low few (scale_is_lawful w) w.fit)
 
 -- ---- one level after another

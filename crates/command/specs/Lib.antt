@@ -1,5 +1,4 @@
 -- The definitions that the contracts cite.
 pub mod Parting
-pub mod Reading
 pub mod Asking
 pub mod Answering

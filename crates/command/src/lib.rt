@@ -4,5 +4,3 @@
 pub mod answering;
 mod asking;
 mod parting;
-pub mod profile;
-pub mod reading;

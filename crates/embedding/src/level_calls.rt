@@ -9,10 +9,10 @@ ghost use Rattle.embedding.specs.Drawings.{level_drawn, length_of, scale_after, 
 ghost use Rattle.embedding.specs.Listings.{level_listed};
 
 use crate::replies::{Obstacle, Reply};
-use command::profile::Profile;
-use command::reading::schedule_in;
 use levels::draw::draw;
 use listing::listings::list_level;
+use sheets::profiles::profile_in;
+use sheets::schedule_sheets::schedule_in;
 
 fn list_from_sheets(
     schedule: &[u8],
@@ -24,8 +24,8 @@ fn list_from_sheets(
     ensures writes { out.new ≡ (level_listed (schedule_of schedule.now) level (profile_of profile.now) out.old).1 }
 {
     let built = schedule_in(schedule).map_err(Obstacle::First)?;
-    let profile = Profile::read(profile).map_err(Obstacle::Second)?;
-    list_level(&built, level, profile.heights(), out).map_err(Obstacle::from)
+    let heights = profile_in(profile).map_err(Obstacle::Second)?;
+    list_level(&built, level, heights.as_slice(), out).map_err(Obstacle::from)
 }
 
 /// Writes the listing of one level, of the schedule and the profile that two sheets give, into the front of `out`, and counts

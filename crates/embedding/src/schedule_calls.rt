@@ -7,9 +7,9 @@ ghost use Rattle.embedding.specs.Sheets.{rewritten};
 ghost use Rattle.embedding.specs.Verdicts.{Verdict, Compares};
 
 use crate::replies::{Obstacle, Reply};
-use command::reading::schedule_in;
 use primes::comparing::{Comparison, compare};
 use schedule::schedules::Schedule;
+use sheets::schedule_sheets::schedule_in;
 use sheets::writing::write_schedule;
 
 fn count_passes(sheet: &[u8]) -> Result<usize, Obstacle>

@@ -8,11 +8,11 @@ ghost use Rattle.embedding.specs.Replies.{reply_to};
 ghost use Rattle.embedding.specs.Tallies.{turn_counts, tallied};
 
 use crate::replies::{Obstacle, Reply};
-use command::reading::schedule_in;
 use levels::walks::Walk;
 use samples::limits::MOST_HEIGHTS;
 use samples::turns::find;
 use scale_space::turns::{Turn, TurnKind};
+use sheets::schedule_sheets::schedule_in;
 
 /// How many turns the walk's level has. The table has a place for each sample, so all are found.
 fn count_here(walk: &Walk, table: &mut [Turn; MOST_HEIGHTS]) -> u64
