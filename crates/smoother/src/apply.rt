@@ -29,8 +29,8 @@ fn lay(taps: &TapList, samples: &[i64], out: &mut [i64]) -> Result<usize, Refusa
     if !all_weighable(samples, taps.sum()) {
         return Err(Refusal::SampleTooLarge);
     }
-    for i in 0..count {
-        out[i] = taps.dot(&samples[i..i + width]);
+    for (i, window) in samples.windows(width).enumerate() {
+        out[i] = taps.dot(window);
     }
     Ok(count)
 }
