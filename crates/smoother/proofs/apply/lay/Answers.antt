@@ -32,9 +32,9 @@ loop-i-preserved c =
     let window : c.in-Some.window.now ≡ take (windows_size (enumerate_source c.loop-i.i-iterator)) (drop k xs) = h.0.1.1 ∙ ap (take (windows_size (enumerate_source c.loop-i.i-iterator))) inv.2 in
     let f : SFits w64 c.dot.result = search rules in
     let left : length (windows_rest (enumerate_source c.loop-i.i-iterator)) ≡ length xs - k = ap length inv.2 ∙ length-drop k xs in
-    let fits : k + length ts ≤ length xs = omega (arith, h.0.1.0, inv.1, c.requires.some) in
+    let fits : k + length ts ≤ length xs = omega (arith, h.0.1.0, inv.1, c.args.taps.now.some) in
     let next : k < length c.args.out.now = omega (arith, fits, ap length c.as_slice-width.ensures) in
-    let more = written_more ts xs c.args.out.now c.requires.some k _ c.loop-i.out c.dot.result inv.1 fits next (c.dot.ensures ∙ ap (dot ts) window) inv.4 in
+    let more = written_more ts xs c.args.out.now c.args.taps.now.some k _ c.loop-i.out c.dot.result inv.1 fits next (c.dot.ensures ∙ ap (dot ts) window) inv.4 in
     simp (to_z-of_z, length-set) (inv.0, h.0.0 ∙ inv.1, h.0.1.2 ∙ ap (drop 1) inv.2 ∙ drop-drop 1 k xs ∙ ap (λ n. drop n xs) (sym h.2), omega (arith, fits, h.2), rw (h.1, h.2) more)
 
 pub returns-clause-places : goal.returns-clause-places
@@ -45,4 +45,4 @@ returns-clause-places c =
     let inv = c.loop-i.invariant in
     let left : length (windows_rest (enumerate_source c.loop-i.i-iterator)) ≡ length xs - k = ap length inv.2 ∙ length-drop k xs in
     let none = c.in-None.ensures.steps.0.1 in
-    written_all ts xs c.args.out.now c.requires.some k _ c.loop-i.out (omega (arith, ap length c.as_slice-width.ensures)) (omega (arith, none, inv.1, inv.3, ap length c.as_slice-width.ensures)) inv.4
+    written_all ts xs c.args.out.now c.args.taps.now.some k _ c.loop-i.out (omega (arith, ap length c.as_slice-width.ensures)) (omega (arith, none, inv.1, inv.3, ap length c.as_slice-width.ensures)) inv.4
