@@ -1,18 +1,13 @@
 -- Lawful heights, and levels that are light enough to be weighed.
-use Rattle.std.proofs.Common.{◌≡◌, ℕ, ◌+◌, ◌*◌, ◌^◌, ◌<◌, ◌≤◌, Bool, true, ◌&&◌, List, [], ◌∷◌, length, get_or, drop, ℤ, pos, negsuc, ◌*ℤ◌, nat_abs, sym, refl, ap, ◌∙◌, mul-le-mul_left, arith}
+use Rattle.std.proofs.Common.{◌≡◌, ℕ, ◌*◌, ◌^◌, ◌≤◌, true, List, [], ◌∷◌, ℤ, pos, negsuc, ◌*ℤ◌, nat_abs, refl, mul-le-mul_left, arith}
 use borrow.Author.Differences.{ints, product_is}
 use Rattle.std.proofs.ByRecursion.{All-weaker}
-use Rattle.std.proofs.lemmas.List.{at_drop_more}
 use Rattle.std.proofs.lemmas.Bool.{leb-true, le-leb, and_parts, and_from}
 use Rattle.scale_space.specs.Levels.{Level, ground, Between, Within}
-use Rattle.samples.specs.Answers.{height_lawful, heights_fit}
+use Rattle.samples.specs.Answers.{heights_fit}
 use Rattle.levels.specs.Drawing.{heights_lawful, Light}
 
 -- ---- heights
--- one height tested
-pub lawful_next : (hs : List ℤ) (i : ℕ) (b : Bool) → i < length hs → b ≡ height_lawful (get_or hs i (pos 0)) → heights_lawful (drop i hs) ≡ b && heights_lawful (drop (i + 1) hs)
-lawful_next hs i b l e = at_drop_more heights_lawful hs i (pos 0) l ∙ ap (λ t. t && heights_lawful (drop (i + 1) hs)) (sym e)
-
 height_between : (h : ℤ) → nat_abs h ≤ 100000 → Between (negsuc 99999 *ℤ pos 1) (pos 100000 *ℤ pos 1) h
 height_between h l = (omega (arith, ints), omega (arith, ints))
 

@@ -1,7 +1,7 @@
 -- Taps laid on a window, product by product: nothing wraps.
 use Rattle.std.proofs.Common.{◌≡◌, ℕ, ◌+◌, ◌*◌, ◌/◌, ◌^◌, ◌<◌, ◌≤◌, true, List, length, get_or, drop, ℤ, pos, negsuc, ◌+ℤ◌, ◌*ℤ◌, nat_abs, sym, refl, ap, ◌∙◌, subst, ap₂, mul-le-mul_left, div-mul-le_self, le-mul_of_pos_right, arith, w64, SFits, to_z, of_z}
 use borrow.Author.Differences.{product_is, ints}
-use lib.IntN.{+ℤ_idl, +ℤ_idr, +ℤ_assoc}
+use lib.IntN.{+ℤ_idr, +ℤ_assoc}
 use Rattle.std.proofs.lemmas.List.{at_drop_all, drop_more}
 use Rattle.std.proofs.lemmas.Int.{to_z-of_z, to_z_pos}
 use Rattle.scale_space.specs.Taps.{dot, scale}
@@ -51,9 +51,6 @@ module _ (m : ℕ) (a : ℤ) (t : ℕ) (x : ℤ) (rest : ℕ) (l : t ≤ 2 ^ 40)
 pub record Weighed (ts : List ℕ) (xs : List ℤ) (i : ℕ) (a : ℤ) : Type 0 where
   pub whole : a +ℤ dot (drop i ts) (drop i xs) ≡ dot ts xs
   pub room : nat_abs a + (2 ^ 57 / scale ts) * scale (drop i ts) ≤ 2 ^ 57
-
-pub weighed_none : (ts : List ℕ) (xs : List ℤ) → Weighed ts xs 0 (pos 0)
-weighed_none ts xs = record { whole = +ℤ_idl (dot ts xs); room = omega (arith, div-mul-le_self (2 ^ 57) (scale ts)) }
 
 dot_more : (ts : List ℕ) (xs : List ℤ) (i : ℕ) → i < length ts → i < length xs → dot (drop i ts) (drop i xs) ≡ pos (get_or ts i 0) *ℤ get_or xs i (pos 0) +ℤ dot (drop (i + 1) ts) (drop (i + 1) xs)
 unfolding dot

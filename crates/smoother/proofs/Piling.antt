@@ -6,7 +6,7 @@ use Rattle.scale_space.specs.declared.passes.Pass.{Pass}
 use Rattle.scale_space.specs.declared.passes.Pass.TheVariants.{Pair, Triple}
 use Rattle.scale_space.specs.Taps.{scale}
 use Rattle.scale_space.specs.Passes.{weights, Proper, product, taps}
-use Rattle.scale_space.proofs.Piles.{weights_some, taps_some, taps_length, reach_le, product_is}
+use Rattle.scale_space.proofs.Piles.{taps_length, reach_le, product_is}
 use Rattle.schedule.specs.Standing.{Standing}
 
 product_last : (qs ds : List Pass) → AllByRecursion Proper (qs ++ ds) → product ds ≤ product (qs ++ ds)
@@ -19,9 +19,6 @@ weights_short (Triple a b c) = omega arith
 
 -- the taps ws of the pass p, which stands before the passes ds, and their taps ts
 module _ (ps qs ds : List Pass) (p : Pass) (ws ts : List ℕ) (all : qs ++ (p ∷ ds) ≡ ps) (st : Standing ps) (e : ws ≡ weights p) (f : ts ≡ taps ds) where
-  pub next_some : (1 ≤ length ws) × (1 ≤ length ts)
-  next_some = (omega (arith, ap length e, weights_some p), omega (arith, ap length f, taps_some ds))
-
   pub next_short : length ws + length ts ≤ 50
   next_short = omega (arith, ap length e, ap length f, weights_short p, taps_length ds, reach_le ds, ap length all, length-append qs (p ∷ ds), st.short)
 

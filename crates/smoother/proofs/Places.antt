@@ -1,12 +1,11 @@
 -- Windows by place, and how they are written.
-use Rattle.std.proofs.Common.{◌≡◌, ℕ, zero, suc, ◌+◌, ◌-◌, ◌<◌, ◌≤◌, true, List, [], ◌∷◌, ◌++◌, length, get_or, take, drop, set, ℤ, pos, ◌+ℤ◌, ◌*ℤ◌, Ok, Result, sym, refl, ap, ◌∙◌, arith}
-use Rattle.std.proofs.lemmas.List.{length-take, length-drop, take_all}
-use Rattle.std.proofs.lemmas.Bool.{le-ltb, cond-true, cond-false}
+use Rattle.std.proofs.Common.{◌≡◌, ℕ, zero, suc, ◌+◌, ◌-◌, ◌<◌, ◌≤◌, List, [], ◌∷◌, ◌++◌, length, get_or, take, drop, set, ℤ, pos, ◌+ℤ◌, ◌*ℤ◌, Result, sym, refl, ap, ◌∙◌, arith}
+use Rattle.std.proofs.lemmas.List.{take_all}
 use Rattle.samples.specs.Answers.{written}
 use Rattle.samples.specs.declared.refusals.Refusal.{Refusal}
-use Rattle.scale_space.specs.Taps.{dot, windows, scale}
+use Rattle.scale_space.specs.Taps.{dot, windows}
 use Rattle.scale_space.proofs.Windows.{windows_cons, windows_length}
-use Rattle.smoother.specs.Answers.{weighable, applied}
+use Rattle.smoother.specs.Answers.{applied}
 
 windows_count : (ts : List ℕ) (xs : List ℤ) → 1 ≤ length ts → length (windows ts xs) ≡ length xs + 1 - length ts
 windows_count [] xs h = absurd (omega arith)
@@ -22,9 +21,6 @@ unfolding dot
 dot_take [] xs = refl
 dot_take (t ∷ ts) [] = refl
 dot_take (t ∷ ts) (x ∷ xs) = ap (λ z. pos t *ℤ x +ℤ z) (dot_take ts xs)
-
-pub window_length : (ts : List ℕ) (xs : List ℤ) (i n : ℕ) → n ≡ length ts → i + length ts ≤ length xs → length ts ≡ length (take n (drop i xs))
-window_length ts xs i n e h = simp (length-take, length-drop) (omega arith)
 
 put_more : (ws old : List ℤ) (i : ℕ) (v : ℤ) → i < length ws → i < length old → v ≡ get_or ws i (pos 0) → set (take i ws ++ drop i old) i v ≡ take (i + 1) ws ++ drop (i + 1) old
 put_more [] old i v h k e = absurd (omega arith)
@@ -47,10 +43,6 @@ module _ (ts : List ℕ) (xs old : List ℤ) (some : 1 ≤ length ts) where
   pub written_all : (i n : ℕ) (out : List ℤ) → n ≡ length xs + 1 - length ts → i ≡ n → Written ts xs old i out → out ≡ windows ts xs ++ drop n old
   written_all i n out e f w =
       w ∙ ap (λ ws. ws ++ drop i old) (take_all i (windows ts xs) (omega (arith, windows_count ts xs some))) ∙ ap (λ m. windows ts xs ++ drop m old) f
-
-pub applied_all : (ts : List ℕ) (xs : List ℤ) (room n : ℕ) → length ts ≤ length xs → n ≤ room → n ≡ length xs + 1 - length ts → weighable (scale ts) xs ≡ true → Ok n ≡ applied ts xs room
-applied_all ts xs room n h k e w =
-    ap Ok e ∙ sym (cond-false _ _ _ (le-ltb (length xs) (length ts) h) ∙ cond-false _ _ _ (le-ltb room (length xs + 1 - length ts) (omega arith)) ∙ cond-true (weighable (scale ts) xs) _ _ w)
 
 -- ---- the same taps, named in two ways
 pub applied_as : (us ts : List ℕ) (xs : List ℤ) (room : ℕ) (r : Result ℕ Refusal) → us ≡ ts → r ≡ applied us xs room → r ≡ applied ts xs room

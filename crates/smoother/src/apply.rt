@@ -13,8 +13,7 @@ use samples::refusals::Refusal;
 
 /// Lays taps on every window. All samples are checked before the first place is written.
 fn lay(taps: &TapList, samples: &[i64], out: &mut [i64]) -> Result<usize, Refusal>
-    requires some { 1 ≤ length (shown taps.now) }
-    requires heavy { 1 ≤ scale (shown taps.now) }
+    requires { 1 ≤ scale (shown taps.now) }
     ensures answer { result ≡ applied (shown taps.now) samples.now (length out.old) }
     ensures places { out.new ≡ written result (windows (shown taps.now) samples.now) out.old }
 {
@@ -29,8 +28,8 @@ fn lay(taps: &TapList, samples: &[i64], out: &mut [i64]) -> Result<usize, Refusa
     if !all_weighable(samples, taps.sum()) {
         return Err(Refusal::SampleTooLarge);
     }
-    for i in 0..count {
-        out[i] = taps.dot(&samples[i..i + width]);
+    for (i, window) in samples.windows(width).enumerate() {
+        out[i] = taps.dot(window);
     }
     Ok(count)
 }

@@ -1,5 +1,5 @@
 //! Taps at run time: a list of at most 49, held inline so that showing them cannot fail for want of memory.
-ghost use Rattle.std.specs.Prelude.{◌^◌, ◌≤◌};
+ghost use Rattle.std.specs.Prelude.{◌^◌, ◌≤◌, length};
 ghost use Rattle.scale_space.specs.Taps.{scale};
 ghost use Rattle.fixed_list.specs.Listed.{listed};
 
@@ -7,9 +7,10 @@ use fixed_list::FixedList;
 
 pub mod building;
 
-/// Taps whose sum no smoother passes.
+/// One tap or more, and a sum that no smoother passes.
 #[derive(Clone, Copy)]
 pub struct TapList {
     taps: FixedList<u64, 49>,
+    ghost some: { 1 ≤ length (listed taps) },
     ghost light: { scale (listed taps) ≤ 2 ^ 40 },
 }

@@ -37,6 +37,7 @@ impl TapList {
     }
 
     fn of(taps: &[u64]) -> TapList
+        requires some { 1 ≤ length taps.now }
         requires short { length taps.now ≤ 49 }
         requires light { scale taps.now ≤ 2 ^ 40 }
         ensures { shown result ≡ taps.now }
@@ -76,8 +77,7 @@ impl TapList {
 
     /// Whether these taps can be piled with others, and if not, why not.
     pub(crate) fn fits(&self, other: &TapList) -> Result<(), Refusal>
-        requires some { (1 ≤ length (shown self.now)) × (1 ≤ length (shown other.now)) }
-        requires heavy { 1 ≤ scale (shown other.now) }
+        requires { 1 ≤ scale (shown other.now) }
         ensures { result ≡ stacked (shown self.now) (shown other.now) tt }
     {
         if self.sum() > LARGEST_SCALE / other.sum() {
@@ -91,7 +91,6 @@ impl TapList {
 
     /// These taps piled with others: these first, then the others.
     pub(crate) fn pile(&self, other: &TapList) -> TapList
-        requires some { (1 ≤ length (shown self.now)) × (1 ≤ length (shown other.now)) }
         requires short { length (shown self.now) + length (shown other.now) ≤ 50 }
         requires light { scale (shown self.now) * scale (shown other.now) ≤ 2 ^ 40 }
         ensures { shown result ≡ conv (shown self.now) (shown other.now) }

@@ -6,7 +6,7 @@ use Rattle.scale_space.specs.Taps.{conv}
 use Rattle.scale_space.specs.Passes.{taps}
 use Rattle.schedule.specs.Calls.{passes}
 use Rattle.smoother.specs.Passing.{taps_draw}
-use Rattle.smoother.proofs.Piling.{next_some, next_short, next_light, none_left}
+use Rattle.smoother.proofs.Piling.{next_short, next_light, none_left}
 use Rattle.smoother.proofs.kinds.taps_of.Goals as goal
 
 pub loop-pass-init : goal.loop-pass-init
@@ -22,7 +22,6 @@ pile-taps-requires c =
     let ds = c.loop-pass.invariant.0 in
     let all : qs ++ (p ∷ ds) ≡ ps = sym (append_assoc qs (p ∷ []) ds) ∙ ap (λ l. l ++ ds) (sym c.in-Some.ensures.steps) ∙ c.loop-pass.invariant.1 in
     record {
-      some = next_some ps qs ds p _ _ all c.as_slice.ensures.standing c.weights_of.ensures c.loop-pass.invariant.2;
       short = next_short ps qs ds p _ _ all c.as_slice.ensures.standing c.weights_of.ensures c.loop-pass.invariant.2;
       light = next_light ps qs ds p _ _ all c.as_slice.ensures.standing c.weights_of.ensures c.loop-pass.invariant.2;
     }

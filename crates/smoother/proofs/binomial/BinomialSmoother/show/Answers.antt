@@ -1,14 +1,13 @@
 -- One pair more makes the next row.
 use Rattle.std.proofs.Common.{◌≡◌, sym, ap, ◌∙◌, arith}
 use Rattle.smoother.specs.Rows.{row}
-use Rattle.smoother.specs.Row.{row_first, next_some, next_short, next_light, next_is}
+use Rattle.smoother.specs.Row.{row_first, next_short, next_light, next_is}
 use Rattle.smoother.proofs.binomial.BinomialSmoother.show.Goals as goal
 
 pub pile-taps-requires : goal.pile-taps-requires
 pile-taps-requires c =
     let low = c.args.self.now.low in
     record {
-      some = next_some _ _ _ c.two-pair.ensures c.loop.invariant;
       short = next_short _ _ _ c.two-pair.ensures c.loop.invariant (omega arith);
       light = next_light _ _ _ c.two-pair.ensures c.loop.invariant (omega arith);
     }
