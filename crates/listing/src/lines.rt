@@ -52,7 +52,7 @@ fn lines_size(level: usize, turns: &[Turn]) -> usize
     ensures size { result ≡ length (flat_map (height_line level) turns.now) }
     ensures most { result ≤ 163840 }
 {
-    // A loop, since of a chain's `sum` the proof learns no bound, which the caller's own sum needs.
+    // A loop: a chain's `sum` was tried, and the bound that the caller's own sum needs did not prove.
     let mut size = 0;
     for turn in turns {
         size += line_size(level, *turn);

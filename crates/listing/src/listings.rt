@@ -49,6 +49,7 @@ pub fn list(walk: &Walk, out: &mut [u8]) -> Result<usize, SheetFault>
     ensures answers { result ≡ (answer (Ok (listing walk.now.level (come_to walk.now))) out.old).0 }
     ensures writes { out.new ≡ (answer (Ok (listing walk.now.level (come_to walk.now))) out.old).1 }
 {
+    // A table with a place for each sample, since nothing here allocates.
     let mut table = [Turn {
         kind: TurnKind::Ridge,
         place: 0,

@@ -11,13 +11,12 @@ use itoa::Buffer;
 use scale_space::passes::Pass;
 use schedule::schedules::Schedule;
 
-/// Appends a comma and a weight, which has at most ten digits.
+/// Appends a weight, which has at most ten digits.
 fn push_weight(n: u32, sheet: &mut ArrayString<875>)
-    requires { length sheet.old.bytes + 11 ≤ 875 }
-    ensures text { sheet.new.bytes ≡ sheet.old.bytes ++ (44 ∷ decimal n) }
-    ensures most { length sheet.new.bytes ≤ length sheet.old.bytes + 11 }
+    requires { length sheet.old.bytes + 10 ≤ 875 }
+    ensures text { sheet.new.bytes ≡ sheet.old.bytes ++ decimal n }
+    ensures most { length sheet.new.bytes ≤ length sheet.old.bytes + 10 }
 {
-    sheet.push_str(",");
     let mut buffer = Buffer::new();
     sheet.push_str(buffer.format(n));
 }
@@ -30,15 +29,18 @@ fn push_line(pass: Pass, sheet: &mut ArrayString<875>)
 {
     match pass {
         Pass::Pair(a, b) => {
-            sheet.push_str("2");
+            sheet.push_str("2,");
             push_weight(a, sheet);
+            sheet.push_str(",");
             push_weight(b, sheet);
             sheet.push_str(",\n");
         }
         Pass::Triple(a, b, c) => {
-            sheet.push_str("3");
+            sheet.push_str("3,");
             push_weight(a, sheet);
+            sheet.push_str(",");
             push_weight(b, sheet);
+            sheet.push_str(",");
             push_weight(c, sheet);
             sheet.push_str("\n");
         }
