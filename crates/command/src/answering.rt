@@ -37,6 +37,7 @@ fn put_levels(walk: &mut Walk, out: &mut [u8]) -> usize
     ensures bytes { (ps : List Pass) (hs : List ℤ) → At walk.old ps (length ps) 0 hs → (result ≡ length (listings ps hs (suc (length ps)))) × (out.new ≡ listings ps hs (suc (length ps)) ++ drop result out.old) }
 {
     let mut at = 0;
+    // Each level takes the place of the one before it in the walk, so no iterator can yield them.
     loop {
         at += put_level(walk, &mut out[at..]);
         if !walk.step() {

@@ -9,7 +9,7 @@ ghost use Rattle.embedding.specs.Drawings.{level_drawn, length_of, scale_after, 
 ghost use Rattle.embedding.specs.Listings.{level_listed};
 
 use crate::replies::{Obstacle, Reply};
-use levels::draw::draw;
+use levels::draw::{Drawn, draw};
 use listing::listings::list_level;
 use sheets::profiles::profile_in;
 use sheets::schedule_sheets::schedule_in;
@@ -42,16 +42,12 @@ fn draw_from_sheet(
     level: usize,
     heights: &[i64],
     work: &mut [i64],
-    scale: &mut u64,
-) -> Result<usize, Obstacle>
-    ensures answers { result ≡ length_of (level_drawn (schedule_of schedule.now) level heights.now (length work.old)) }
-    ensures scales { scale.new ≡ scale_after (level_drawn (schedule_of schedule.now) level heights.now (length work.old)) scale.old }
+) -> Result<Drawn, Obstacle>
+    ensures answer { result ≡ level_drawn (schedule_of schedule.now) level heights.now (length work.old) }
     ensures places { work.new ≡ work_after (schedule_of schedule.now) level heights.now work.old }
 {
     let built = schedule_in(schedule).map_err(Obstacle::First)?;
-    let drawn = draw(&built, level, heights, work)?;
-    *scale = drawn.scale;
-    Ok(drawn.length)
+    Ok(draw(&built, level, heights, work)?)
 }
 
 /// Draws one level of the schedule that a sheet gives, exactly and in place: `work` then begins with the level's numerators,
@@ -70,5 +66,9 @@ pub fn hekudoja_draw(
     ensures places { work.new ≡ work_after (schedule_of schedule.now) level heights.now work.old }
     ensures calm { (ps : List Pass) (hs : List ℤ) → schedule_of schedule.now ≡ Ok ps → Calm ps hs }
 {
-    Reply::from(draw_from_sheet(schedule, level, heights, work, scale))
+    let drawn = draw_from_sheet(schedule, level, heights, work);
+    if let Ok(drawn) = drawn {
+        *scale = drawn.scale;
+    }
+    Reply::from(drawn.map(|drawn| drawn.length))
 }

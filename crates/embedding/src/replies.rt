@@ -10,6 +10,7 @@ use sheets::faults::SheetFault;
 
 /// What was done or found is counted. `refusal` is the refusal's number, or 0 where there is none; `sheet` is the sheet that is
 /// at fault, 1 or 2, and `line` the line of it, counted from 1. Both are 0 where no sheet or line is at fault.
+// Four numbers and no enum, since C reads it.
 #[repr(C)]
 #[derive(Clone, Copy, PartialEq, Eq, Debug)]
 pub struct Reply {

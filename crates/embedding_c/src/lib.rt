@@ -1,5 +1,6 @@
 //! The archive for tools in C and Rust: the calls of `embedding`, exported under C names. A slice is passed as a pointer and then
-//! a length. Each call does what its namesake there does, and repeats what that promises.
+//! a length. Each call does what its namesake there does, and repeats what that promises,
+//! since only a static library exports C names, and crates are built on plain ones.
 #![tactic(auto)]
 
 mod command_calls;
