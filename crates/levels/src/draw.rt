@@ -7,7 +7,7 @@ ghost use Rattle.scale_space.specs.Laws.{Calm};
 ghost use Rattle.schedule.specs.Calls.{passes};
 ghost use Rattle.levels.specs.Drawing.{heights_lawful, allowed, shape, drawn, laid, worked, Light};
 
-use samples::limits::{MOST_HEIGHTS, is_height};
+use samples::limits::{LARGEST_HEIGHT, MOST_HEIGHTS, are_within};
 use samples::refusals::Refusal;
 use scale_space::passes::Pass;
 use schedule::reduction::scale_of;
@@ -18,12 +18,6 @@ use schedule::schedules::Schedule;
 pub struct Drawn {
     pub length: usize,
     pub scale: u64,
-}
-
-fn are_lawful(heights: &[i64]) -> bool
-    ensures { result ≡ heights_lawful heights.now }
-{
-    heights.iter().all(|height| is_height(*height))
 }
 
 /// How many samples fewer a pass leaves.
@@ -59,7 +53,7 @@ pub(crate) fn check(
     if profile.is_empty() || profile.len() > MOST_HEIGHTS {
         return Err(Refusal::ProfileLength);
     }
-    if !are_lawful(profile) {
+    if !are_within(profile, LARGEST_HEIGHT) {
         return Err(Refusal::HeightOutOfRange);
     }
     if profile.len() <= reach_of(&schedule.as_slice()[0..k]) {

@@ -3,5 +3,4 @@ mod Crossing
 mod Reading
 mod Sizes
 mod Turning
-pub mod Within
 mod Writing

@@ -3,6 +3,7 @@ use Rattle.std.specs.Prelude.{◌≡◌, ◌*◌, ◌^◌, ◌≤◌, List, [], 
 use Rattle.std.proofs.Common.{◌∙◌, arith}
 use Rattle.std.specs.List.{AllByRecursion}
 use Rattle.scale_space.specs.declared.passes.Pass.{Pass}
+use Rattle.scale_space.specs.declared.passes.Pass.TheVariants.{Pair, Triple}
 use Rattle.scale_space.specs.Taps.{scale}
 use Rattle.scale_space.specs.Levels.{Diminishing, ground, weighed}
 use Rattle.scale_space.specs.Passes.{weights, Proper, product, taps, level}
@@ -12,6 +13,10 @@ use Rattle.schedule.proofs.Meaning.{scale_le}
 use Rattle.smoother.specs.Limits.{diminishing_one}
 
 -- ---- a pass
+pub pass_short : (p : Pass) → length (weights p) ≤ 49
+pass_short (Pair a b) = omega arith
+pass_short (Triple a b c) = omega arith
+
 pub pass_light : (p : Pass) → Proper p → scale (weights p) ≤ 2 ^ 40
 pass_light p h = omega (arith, scale_le p h)
 

@@ -3,20 +3,18 @@ ghost use Rattle.std.specs.Prelude.{◌≡◌, List, ℤ};
 ghost use Rattle.scale_space.specs.Levels.{ground, weighed};
 ghost use Rattle.scale_space.specs.Passes.{weights, taps, level};
 ghost use Rattle.schedule.specs.Calls.{passes};
-ghost use Rattle.schedule.specs.Kinds.{pair_pass, triple_pass};
+ghost use Rattle.schedule.specs.Kinds.{single_pass};
 ghost use Rattle.smoother.specs.TapLists.{shown};
 ghost use Rattle.schedule.proofs.Meaning.{proper_means};
-ghost use Rattle.smoother.specs.Passing.{pass_light, pass_diminishing, taps_short, taps_heavy, taps_light, taps_diminishing};
-ghost use Rattle.std.proofs.Common.{rules};
-ghost use Rattle.scale_space.proofs.Piles.{taps_some};
+ghost use Rattle.smoother.specs.Passing.{pass_short, pass_light, pass_diminishing, taps_short, taps_heavy, taps_light, taps_diminishing};
+ghost use Rattle.scale_space.proofs.Piles.{weights_some, taps_some};
 ghost use Rattle.schedule.proofs.Standing.{standing};
 
 use crate::interface::Smoother;
 use crate::tap_lists::TapList;
 use scale_space::passes::Pass;
-use schedule::pairs::Pair;
 use schedule::schedules::Schedule;
-use schedule::triples::Triple;
+use schedule::singles::Single;
 
 /// The weights of a pass as taps.
 fn weights_of(pass: Pass) -> TapList
@@ -28,30 +26,12 @@ fn weights_of(pass: Pass) -> TapList
     }
 }
 
-impl Smoother for Pair {
-    ghost taps = { λ p. weights (pair_pass p) };
+impl<const N: usize> Smoother for Single<N> {
+    ghost taps = { λ p. weights (single_pass p) };
 
-    ghost some = { Prim.search rules };
+    ghost some = { λ s. weights_some _ };
 
-    ghost short = { Prim.search rules };
-
-    ghost heavy = { λ s. (proper_means _ s.stands).some };
-
-    ghost light = { λ s. pass_light _ (proper_means _ s.stands) };
-
-    ghost diminishing = { λ s. pass_diminishing _ (proper_means _ s.stands) };
-
-    fn show(&self) -> TapList {
-        weights_of(self.pass())
-    }
-}
-
-impl Smoother for Triple {
-    ghost taps = { λ t. weights (triple_pass t) };
-
-    ghost some = { Prim.search rules };
-
-    ghost short = { Prim.search rules };
+    ghost short = { λ s. pass_short _ };
 
     ghost heavy = { λ s. (proper_means _ s.stands).some };
 
