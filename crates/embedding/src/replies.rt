@@ -21,7 +21,7 @@ pub struct Reply {
 }
 
 /// Why a call changed nothing, and what is at fault.
-#[derive(Clone, Copy)]
+#[derive(Clone, Copy, PartialEq, Eq, Debug)]
 pub enum Obstacle {
     /// The first sheet of the call.
     First(SheetFault),

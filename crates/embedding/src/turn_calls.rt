@@ -1,28 +1,15 @@
 //! The turns of all levels, for a tool.
 ghost use Rattle.std.specs.Prelude.{◌≡◌, ℕ, suc, ◌<◌, ◌≤◌, List, ◌++◌, length, drop, ℤ, slice_index};
 ghost use Rattle.scale_space.specs.declared.passes.Pass.{Pass};
-ghost use Rattle.scale_space.specs.Levels.{turn_count};
-ghost use Rattle.levels.specs.Walks.{come_to, At};
+ghost use Rattle.levels.specs.Walks.{At};
 ghost use Rattle.sheets.specs.ScheduleSheets.{schedule_of};
 ghost use Rattle.embedding.specs.Replies.{reply_to};
 ghost use Rattle.embedding.specs.Tallies.{turn_counts, tallied};
 
 use crate::replies::{Obstacle, Reply};
 use levels::walks::Walk;
-use samples::limits::MOST_HEIGHTS;
-use samples::turns::find;
-use scale_space::turns::{Turn, TurnKind};
+use samples::turns;
 use sheets::schedule_sheets::schedule_in;
-
-/// How many turns the walk's level has. The table has a place for each sample, so all are found.
-fn count_here(walk: &Walk, table: &mut [Turn; MOST_HEIGHTS]) -> u64
-    ensures { result ≡ turn_count (come_to walk.now) }
-{
-    let Ok(count) = find(walk.numerators(), table) else {
-        return unreachable();
-    };
-    count as u64
-}
 
 /// Puts the number of turns of each level into its place of `counts`. At the last level the walk stays.
 fn put_counts(walk: &mut Walk, counts: &mut [u64])
@@ -30,13 +17,8 @@ fn put_counts(walk: &mut Walk, counts: &mut [u64])
     requires all { length counts.old ≡ suc walk.old.last }
     ensures { (ps : List Pass) (hs : List ℤ) → At walk.old ps (length ps) 0 hs → counts.new ≡ turn_counts ps hs (suc (length ps)) }
 {
-    let mut table = [Turn {
-        kind: TurnKind::Ridge,
-        place: 0,
-        numerator: 0,
-    }; MOST_HEIGHTS];
     for count in counts.iter_mut() {
-        *count = count_here(walk, &mut table);
+        *count = turns::count(walk.numerators()) as u64;
         walk.step();
     }
 }

@@ -43,13 +43,21 @@ fn fill<F: Finder>(mut finder: F, samples: &[i64], table: &mut [F::Found]) -> us
     found
 }
 
+/// How many records a finder gives for the samples.
+pub fn count<F: Finder>(finder: F, samples: &[i64]) -> usize
+    ensures is { result ≡ length (F.finds finder 0 samples.now) }
+    ensures few { result ≤ length samples.now }
+{
+    fill(finder, samples, &mut [])
+}
+
 /// Puts a finder's records into the caller's table, in order, unless they are too many for it. Only a table shorter than the
-/// samples can be too short: for it they are counted first, with no room to write, so that a refusal writes none.
+/// samples can be too short: for it they are counted first, so that a refusal writes none.
 pub fn list<F: Finder>(finder: F, samples: &[i64], table: &mut [F::Found]) -> Result<usize, Refusal>
     ensures answer { result ≡ listed (F.finds finder 0 samples.now) (length table.old) }
     ensures places { table.new ≡ written result (F.finds finder 0 samples.now) table.old }
 {
-    if samples.len() > table.len() && fill(finder, samples, &mut table[..0]) > table.len() {
+    if samples.len() > table.len() && count(finder, samples) > table.len() {
         return Err(Refusal::TableTooShort);
     }
     Ok(fill(finder, samples, table))

@@ -6,6 +6,7 @@ ghost use Rattle.scale_space.specs.Turns.{spot, turning, turns, flats_after};
 ghost use Rattle.samples.specs.Answers.{listed, written};
 ghost use Rattle.samples.specs.Finders.{then, sign_of, turns_ahead, turns_from};
 
+use crate::finder;
 use crate::finder::{Finder, list};
 use crate::refusals::Refusal;
 use scale_space::turns::{Turn, TurnKind};
@@ -22,6 +23,17 @@ struct TurnFinder {
 }
 
 impl TurnFinder {
+    /// A finder that is about to read these samples: level with the first, it finds all their turns.
+    fn new(samples: &[i64]) -> TurnFinder
+        ensures { turns_ahead result 0 samples.now ≡ turns samples.now }
+    {
+        TurnFinder {
+            heading: Ordering::Equal,
+            place: 0,
+            last: samples.first().copied().unwrap_or(0),
+        }
+    }
+
     /// The flat that is being read, as a turn, if a sample that compares so to it makes it one.
     fn turn(&self, next: Ordering) -> Option<Turn>
         ensures { (ts : List Turn) → turning (sign_of self.now.heading) (sign_of (ordering_reverse next)) (spot self.now.place self.now.last) ts ≡ then result ts }
@@ -67,11 +79,12 @@ pub fn find(samples: &[i64], table: &mut [Turn]) -> Result<usize, Refusal>
     ensures answer { result ≡ listed (turns samples.now) (length table.old) }
     ensures places { table.new ≡ written result (turns samples.now) table.old }
 {
-    let first = samples.first().copied().unwrap_or(0);
-    let finder = TurnFinder {
-        heading: Ordering::Equal,
-        place: 0,
-        last: first,
-    };
-    list(finder, samples, table)
+    list(TurnFinder::new(samples), samples, table)
+}
+
+/// How many ridges and hollows the samples have.
+pub fn count(samples: &[i64]) -> usize
+    ensures { result ≡ length (turns samples.now) }
+{
+    finder::count(TurnFinder::new(samples), samples)
 }
