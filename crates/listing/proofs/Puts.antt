@@ -52,6 +52,9 @@ six_length a b c d e f = simp length-append
 pub record RoomOfSix (a b c d e f : List ℕ) (at : ℕ) (out : List ℕ) : Type 0 where
   pub all : Roomy (six a b c d e f) at out
 
+pub room_of_six : (a b c d e f : List ℕ) {at : ℕ} {out : List ℕ} → Roomy (six a b c d e f) at out → RoomOfSix a b c d e f at out
+room_of_six a b c d e f r = record { all = r }
+
 module _ {a b c d e f : List ℕ} {at : ℕ} {out : List ℕ} (room : RoomOfSix a b c d e f at out) where
   room_b : Roomy (b ++ (c ++ (d ++ (e ++ f)))) at out
   room_b = room_back a _ room.all
@@ -79,9 +82,15 @@ module _ {a b c d e f : List ℕ} {at : ℕ} {out : List ℕ} (room : RoomOfSix 
           four : Put (c ++ (d ++ (e ++ f))) at out n₄ o₄
           four = put_next c _ room_c three p₄
 
+          pub room_fifth : Roomy b n₄ o₄
+          room_fifth = room_next b _ room_b four
+
           module _ {n₅ : ℕ} {o₅ : List ℕ} (p₅ : Put b n₄ o₄ n₅ o₅) where
             five : Put (b ++ (c ++ (d ++ (e ++ f)))) at out n₅ o₅
             five = put_next b _ room_b four p₅
+
+            pub room_sixth : Roomy a n₅ o₅
+            room_sixth = room_next a _ room.all five
 
             pub put_six : {n₆ : ℕ} {o₆ : List ℕ} → Put a n₅ o₅ n₆ o₆ → Put (six a b c d e f) at out n₆ o₆
             put_six p₆ = put_next a _ room.all five p₆

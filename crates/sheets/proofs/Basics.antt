@@ -1,8 +1,6 @@
 -- What is true of any option, result or list.
 use Rattle.std.proofs.Common.{◌≡◌, ℕ, Bool, true, false, cond, List, [], ◌∷◌, ◌++◌, Some, None, Ok, Err, refl, arith}
 use Rattle.std.specs.List.{AllByRecursion}
-use Rattle.std.specs.Option.{ok_or}
-use Rattle.std.proofs.Common.{Option, MatchOption, subst}
 use Rattle.sheets.specs.declared.faults.SheetFault.{SheetFault}
 
 pub clash : {P : Type 0} → ◌≡◌ {A = ℕ} 0 1 → P
@@ -15,15 +13,6 @@ is_some false x y e = clash cc
 pub is_ok : {A : Type 0} (t : Bool) (x y : A) (f : SheetFault) → cond t (Ok x) (Err f) ≡ Ok y → (t ≡ true) × (x ≡ y)
 is_ok true x y f e = (refl, cc)
 is_ok false x y f e = clash cc
-
--- what an option found, where an error stands for `None`
-pub found : {A : Type 0} (N : Type 0) (S : A → Type 0) (o : Option A) (e : SheetFault) (x : A) → Ok x ≡ ok_or o e → MatchOption o N S → S x
-found N S None e x f m = clash cc
-found N S (Some y) e x f m = let same : y ≡ x = cc in subst S same m
-
-pub not_found : {A : Type 0} (N : Type 0) (S : A → Type 0) (o : Option A) (e y : SheetFault) → Err y ≡ ok_or o e → MatchOption o N S → N × (y ≡ e)
-not_found N S None e y f m = (m, cc)
-not_found N S (Some x) e y f m = clash cc
 
 pub all_front : {A : Type 0} (P : A → Type 0) (xs ys : List A) → AllByRecursion P (xs ++ ys) → AllByRecursion P xs
 all_front P [] ys h = tt

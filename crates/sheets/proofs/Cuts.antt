@@ -1,11 +1,13 @@
 -- Where a text is cut.
-use Rattle.std.proofs.Common.{◌≡◌, ℕ, zero, suc, ◌+◌, ◌-◌, ◌<◌, ◌≤◌, Bool, true, false, cond, eqb, List, [], ◌∷◌, length, get_or, take, drop, Some, None, sym, refl, ap, ◌∙◌, add-one, arith}
+use Rattle.std.proofs.Common.{◌≡◌, ℕ, zero, suc, ◌+◌, ◌-◌, ◌<◌, ◌≤◌, Bool, true, false, cond, eqb, List, [], ◌∷◌, length, get_or, take, drop, Some, None, Ok, Err, Option, Bor, MatchOption, sym, refl, ap, ◌∙◌, add-one, subst, arith}
 use Rattle.std.proofs.lemmas.Bool.{eqb-true, eq-eqb, ne_eqb, cond-true, cond-false}
 use Rattle.std.proofs.lemmas.List.{take_rest, length-take, length-drop}
 use Rattle.std.specs.List.{position, position_or_len}
 use Rattle.std.proofs.lemmas.List.Sums.{fails_before_first}
 use Rattle.std.proofs.lemmas.List.Quantifiers.{position-Some}
 use Rattle.std.proofs.lemmas.Bool.Decides.{nat_tests}
+use Rattle.std.specs.Option.{ok_or}
+use Rattle.sheets.specs.declared.faults.SheetFault.{SheetFault}
 use Rattle.sheets.specs.Lines.{cut, before}
 use Rattle.sheets.proofs.Basics.{clash}
 
@@ -59,3 +61,15 @@ module _ (c : ℕ) where
   first_at bs i e =
       let p = position-Some is_c bs i 0 (sym e) in
       split_first bs i p.0 (λ k l is. clash (ap (λ t. cond t 0 1) (sym (eq-eqb _ _ is) ∙ p.2 k l))) (eqb-true _ _ p.1)
+
+  -- what a split answers, where an error stands for a text that is not cut
+  abbrev IsSplit : List ℕ → Option (Bor (List ℕ) × Bor (List ℕ)) → Type 0
+  IsSplit bs o = MatchOption o (cut c bs ≡ bs ∷ []) (λ p. (cut c bs ≡ p.0.now ∷ cut c p.1.now) × (length p.1.now < length bs))
+
+  pub split_ok : (bs : List ℕ) (o : Option (Bor (List ℕ) × Bor (List ℕ))) (e : SheetFault) (p : Bor (List ℕ) × Bor (List ℕ)) → Ok p ≡ ok_or o e → IsSplit bs o → (cut c bs ≡ p.0.now ∷ cut c p.1.now) × (length p.1.now < length bs)
+  split_ok bs None e p f s = clash cc
+  split_ok bs (Some q) e p f s = let same : q ≡ p = cc in subst (λ x. (cut c bs ≡ x.0.now ∷ cut c x.1.now) × (length x.1.now < length bs)) same s
+
+  pub split_err : (bs : List ℕ) (o : Option (Bor (List ℕ) × Bor (List ℕ))) (e y : SheetFault) → Err y ≡ ok_or o e → IsSplit bs o → (cut c bs ≡ bs ∷ []) × (y ≡ e)
+  split_err bs None e y f s = (s, cc)
+  split_err bs (Some q) e y f s = clash cc

@@ -1,5 +1,5 @@
 -- Lines put one after another.
-use Rattle.std.proofs.Common.{◌≡◌, ℕ, ◌+◌, List, [], ◌∷◌, ◌++◌, codes, sym, refl, ◌∙◌, append_assoc}
+use Rattle.std.proofs.Common.{◌≡◌, ℕ, decimal, ◌+◌, List, [], ◌∷◌, ◌++◌, codes, sym, refl, ◌∙◌, append_assoc}
 use Rattle.std.specs.List.{flat_map}
 use Rattle.scale_space.specs.declared.passes.Pass.{Pass}
 use Rattle.scale_space.specs.declared.passes.Pass.TheVariants.{Pair, Triple}
@@ -20,3 +20,7 @@ joined_lines k (w ∷ ws) = (λ i. same_line k w i ++ (10 ∷ joined_lines (k + 
 
 abbrev pub names : List ℕ
 names = codes "taps,a,b,c\n"
+
+-- the line of a triple, put behind a text piece by piece
+pub triple_line : (was : List ℕ) (a b c : ℕ) → ((((((was ++ codes "3,") ++ decimal a) ++ codes ",") ++ decimal b) ++ codes ",") ++ decimal c) ++ codes "\n" ≡ was ++ line_of (Triple a b c)
+triple_line was a b c = simp append_assoc

@@ -1,13 +1,15 @@
 -- What one value line of a profile gives.
-use Rattle.std.proofs.Common.{◌≡◌, ℕ, true, false, ◌&&◌, eqb, List, [], ◌∷◌, length, ℤ, pos, Some, None, Ok, Err, Option, Result, sym, refl, ap, ◌∙◌, ⊎_elim, arith}
+use Rattle.std.proofs.Common.{◌≡◌, ℕ, ◌+◌, ◌-◌, ◌^◌, min, Bool, true, false, cond, ◌&&◌, eqb, ltb, List, [], ◌∷◌, length, ℤ, pos, negsuc, Some, None, Ok, Err, Option, Result, sym, refl, ap, ◌∙◌, ⊎_elim, arith}
 use Rattle.std.specs.Option.{option_map, ok_or}
+use Rattle.std.proofs.lemmas.Bool.Decides.{nat_tests}
 use Rattle.std.proofs.lemmas.Bool.{cases_Bool, and_parts, eqb-true, cond-true, cond-false}
 use Rattle.sheets.specs.declared.faults.SheetFault.{SheetFault}
-use Rattle.sheets.specs.declared.faults.SheetFault.TheVariants.{Malformed}
+use Rattle.sheets.specs.declared.faults.SheetFault.TheVariants.{Malformed, Refused}
 use Rattle.sheets.specs.Numbers.{digits, leads, value, capped, capped_integer, natural, negative, integer}
 use Rattle.sheets.specs.Lines.{cut}
 use Rattle.sheets.proofs.Cuts.{cut_some}
-use Rattle.sheets.specs.Profiles.{both, station_height, capped_both}
+use Rattle.sheets.specs.Profiles.{both, station_height, accepted, judged, height_at, capped_both}
+use Rattle.samples.specs.Answers.{height_lawful}
 use Rattle.sheets.proofs.Basics.{clash, is_some}
 use Rattle.sheets.proofs.Numerals.{Free, free_digits, cut_last, glue, glue_cut}
 
@@ -67,6 +69,14 @@ module _ (e : SheetFault) where
   line_right None None y f = let x : y ≡ e = cc in ap Err x
   line_right (Some s) None y f = let x : y ≡ e = cc in ap Err x
 
+in_range_capped : (h : ℤ) → height_lawful (capped_integer h) ≡ height_lawful h
+in_range_capped (pos n) = grind (arith, nat_tests)
+in_range_capped (negsuc n) = grind (arith, nat_tests)
+
+capped_in_range : (h : ℤ) → height_lawful h ≡ true → capped_integer h ≡ h
+capped_in_range (pos n) r = let e : min n (2 ^ 32 - 1) ≡ n = grind (arith, nat_tests) in ap pos e
+capped_in_range (negsuc n) r = let e : min n (2 ^ 32 - 2) ≡ n = grind (arith, nat_tests) in ap negsuc e
+
 -- ---- line n, of two fields, s and r
 abbrev pub Line : List ℕ → ℕ → Result (ℕ × ℤ) SheetFault
 Line l n = ok_or (option_map capped_both (station_height (cut 44 l))) (Malformed n)
@@ -80,3 +90,33 @@ module _ (l s r : List ℕ) (n : ℕ) (e : cut 44 l ≡ s ∷ cut 44 r) where
 
   pub value_right : (y : SheetFault) → Err y ≡ ok_or (option_map capped_integer (integer r)) (Malformed n) → Err y ≡ Line l n
   value_right y x = line_right (Malformed n) (natural s) (integer r) y x ∙ is_line
+
+-- ---- the tests do not see the cap
+
+accepted_capped : (k : ℕ) (p : ℕ × ℤ) → accepted k (capped_both p) ≡ accepted k p
+accepted_capped k p = ap (λ t. ltb k 2048 && (eqb (capped p.0) k && t)) (in_range_capped p.1) ∙ go (height_lawful p.1)
+  where
+    go : (t : Bool) → (ltb k 2048 && (eqb (capped p.0) k && t)) ≡ (ltb k 2048 && (eqb p.0 k && t))
+    go t = grind (arith, nat_tests)
+
+height_capped : (k : ℕ) (o : Option (ℕ × ℤ)) → judged k (option_map capped_both o) ≡ judged k o
+height_capped k None = refl
+height_capped k (Some p) =
+    ap (λ t. cond t (Ok (capped_integer p.1)) (Err (Refused (k + 2)))) (accepted_capped k p) ∙ go (accepted k p) (λ h. capped_in_range p.1 (and_parts _ _ (and_parts (ltb k 2048) _ h).1).1)
+  where
+    go : (t : Bool) → (t ≡ true → capped_integer p.1 ≡ p.1) → cond t (Ok (capped_integer p.1)) (Err (Refused (k + 2))) ≡ cond t (Ok p.1) (Err (Refused (k + 2)))
+    go true h = ap Ok (h refl)
+    go false h = refl
+
+from_ok : (o : Option (ℕ × ℤ)) (e : SheetFault) (p : ℕ × ℤ) → Ok p ≡ ok_or o e → o ≡ Some p
+from_ok None e p h = clash cc
+from_ok (Some q) e p h = let x : q ≡ p = cc in ap Some x
+
+module _ (l : List ℕ) (k n s : ℕ) (h : ℤ) (e : Ok (s, h) ≡ Line l n) where
+  is_height : height_at k (cut 44 l) ≡ judged k (Some (s, h))
+  is_height =
+      sym (height_capped k (station_height (cut 44 l))) ∙ ap (judged k) (from_ok (option_map capped_both (station_height (cut 44 l))) (Malformed n) (s, h) e)
+
+  -- z is h, to its bits and back
+  pub height_refused : (z : ℤ) → z ≡ h → false ≡ accepted k (s, z) → Err (Refused (k + 2)) ≡ height_at k (cut 44 l)
+  height_refused z e t = sym (cond-false _ _ _ (sym t)) ∙ ap (λ y. judged k (Some (s, y))) e ∙ sym is_height

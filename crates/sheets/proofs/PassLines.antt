@@ -106,3 +106,10 @@ module _ (l : List ℕ) (k : ℕ) (ps qs : List Pass) where
   pub line_refused : (p : Pass) (r : Result ℕ Refusal) → IsErr r → Ok p ≡ PassLine l (k + 2) → After p r → with_pass k ps (cut 44 l) ≡ Err (Refused (k + 2))
   line_refused p (Ok n) t e a = clash cc
   line_refused p (Err why) t e a = is_joining p e ∙ (λ i. told k (sym a.answer i) (sym a.after i))
+
+pub line_malformed : (l : List ℕ) (k : ℕ) (ps : List Pass) (y : SheetFault) → Err y ≡ PassLine l (k + 2) → with_pass k ps (cut 44 l) ≡ Err y
+line_malformed l k ps y e = go (pass_of (cut 44 l)) e
+  where
+    go : (o : Option Pass) → Err y ≡ ok_or (option_map capped_pass o) (Malformed (k + 2)) → joining k ps o ≡ Err y
+    go None f = let x : y ≡ Malformed (k + 2) = cc in ap Err (sym x)
+    go (Some p) f = clash cc

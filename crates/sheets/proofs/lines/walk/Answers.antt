@@ -1,7 +1,7 @@
 -- The value lines, one after another.
 use Rattle.std.proofs.Common.{◌≡◌, ◌<◌, length, sym, ◌∙◌, arith, rules}
 use Rattle.std.proofs.lemmas.Result.{err_from_is_err_and}
-use Rattle.sheets.proofs.Basics.{found, not_found}
+use Rattle.sheets.proofs.Cuts.{split_ok, split_err}
 use Rattle.sheets.proofs.Walks.{walked_more, walked_stop, walked_unended, walked_end}
 use Rattle.sheets.proofs.lines.walk.Goals as goal
 
@@ -10,7 +10,7 @@ returns-in_err-line g c =
     let r = g.R.ReadsLines in
     let some : 0 < length c.loop-rest.rest.now = search rules in
     let p = err_from_is_err_and c.from_residual.result c.from_residual.ensures.1 in
-    let s = not_found _ _ c.split.result _ _ c.in_err-line.ensures.value c.split.ensures in
+    let s = split_err 10 c.loop-rest.rest.now c.split.result _ _ c.in_err-line.ensures.value c.split.ensures in
     rw (p.1, p.2, s.1)
     (sym c.loop-rest.invariant.2 ∙ walked_unended r.read c.loop-rest.k (r.values c.loop-rest.into) c.loop-rest.rest.now s.0 some)
 
@@ -18,7 +18,7 @@ pub returns-in_err-read_line : goal.returns-in_err-read_line
 returns-in_err-read_line g c =
     let r = g.R.ReadsLines in
     let p = err_from_is_err_and c.from_residual-in_err-read_line.result c.from_residual-in_err-read_line.ensures.1 in
-    let s = found _ _ c.split.result _ _ c.in_ok-line.ensures.value c.split.ensures in
+    let s = split_ok 10 c.loop-rest.rest.now c.split.result _ _ c.in_ok-line.ensures.value c.split.ensures in
     rw (p.1, p.2)
     (sym c.loop-rest.invariant.2
     ∙ walked_stop r.read c.loop-rest.k (r.values c.loop-rest.into) c.loop-rest.rest.now c.in_ok-line.line.now c.in_ok-line.after.now c.in_err-read_line.field-0.0 s.0 c.in_err-read_line.ensures)
@@ -26,7 +26,7 @@ returns-in_err-read_line g c =
 pub loop-rest-preserved : goal.loop-rest-preserved
 loop-rest-preserved g c =
     let r = g.R.ReadsLines in
-    let s = found _ _ c.split.result _ _ c.in_ok-line.ensures.value c.split.ensures in
+    let s = split_ok 10 c.loop-rest.rest.now c.split.result _ _ c.in_ok-line.ensures.value c.split.ensures in
     let e = c.in_ok-read_line.ensures in (
       omega (arith, s.1),
       sym e.1,
