@@ -1,9 +1,8 @@
 //! The whole command, with all that the buffer then holds, and the lines of its refusals.
+use crate::bench::Bench;
 use crate::command_inputs::{SHORT, input, large};
 use crate::generator::Generator;
 use crate::inputs::room_for;
-use crate::library::sheet_answer_of;
-use crate::lists::filled;
 use crate::second::faults::{Answer, Fault};
 use crate::second::whole_command::{
     Origin, Output, ROOM, Rejected, printed, rejection_line, write_printed,
@@ -15,7 +14,7 @@ use command::answering::answer;
 use listing::refusal_lines::{Rejection, write_rejection};
 use samples::refusals::Refusal;
 use sheets::faults::SheetFault;
-use std::alloc::Global;
+use std::alloc::{AllocError, Global};
 
 const ROUNDS: u32 = 3000;
 
@@ -25,22 +24,23 @@ const PLACES: usize = 1_178_300;
 /// The length of the line of names, with which each listing begins.
 const NAMES: usize = 24;
 
-const REFUSALS: [Refusal; 15] = [
-    Refusal::OutOfRange,
-    Refusal::AllZero,
-    Refusal::NotAdmitted,
-    Refusal::NoSuchPlace,
-    Refusal::TooManyPasses,
-    Refusal::ScaleTooLarge,
-    Refusal::ProfileLength,
-    Refusal::HeightOutOfRange,
-    Refusal::TooFewSamples,
-    Refusal::BufferTooShort,
-    Refusal::WindowLength,
-    Refusal::SampleTooLarge,
-    Refusal::TableTooShort,
-    Refusal::ScaleOrHeight,
-    Refusal::ReachTooLong,
+/// The refusals of a draw, with their numbers.
+const REFUSALS: [(Refusal, u8); 15] = [
+    (Refusal::OutOfRange, 1),
+    (Refusal::AllZero, 2),
+    (Refusal::NotAdmitted, 3),
+    (Refusal::NoSuchPlace, 4),
+    (Refusal::TooManyPasses, 5),
+    (Refusal::ScaleTooLarge, 6),
+    (Refusal::ProfileLength, 7),
+    (Refusal::HeightOutOfRange, 8),
+    (Refusal::TooFewSamples, 9),
+    (Refusal::BufferTooShort, 10),
+    (Refusal::WindowLength, 11),
+    (Refusal::SampleTooLarge, 12),
+    (Refusal::TableTooShort, 13),
+    (Refusal::ScaleOrHeight, 14),
+    (Refusal::ReachTooLong, 15),
 ];
 
 /// A buffer for each implementation, which all calls write over.
@@ -48,6 +48,41 @@ const REFUSALS: [Refusal; 15] = [
 struct Buffers {
     library: Vec<u8>,
     second: Vec<u8>,
+}
+
+impl Buffers {
+    fn new(heap: Global) -> Result<Buffers, AllocError> {
+        Ok(Buffers {
+            library: vec![in heap; b'#'; PLACES]?,
+            second: vec![in heap; b'#'; PLACES]?,
+        })
+    }
+
+    /// Both answers in so many places of the buffers, and whether the buffers are then the same.
+    fn ask(&mut self, input: &[u8], printed: &Output, room: usize) -> (Answer, Answer, bool) {
+        let library = in_front(&mut self.library, room, |out| {
+            answer(input, out).map_err(Fault::from)
+        });
+        let second = in_front(&mut self.second, room, |out| write_printed(printed, out));
+        (library, second, self.are_same())
+    }
+
+    /// All places are looked at, without stopping at a difference, which is faster by far.
+    fn are_same(&self) -> bool {
+        let pairs = self.library.iter().zip(self.second.iter());
+        let bits = pairs.fold(0, |bits, (a, b)| bits | (*a ^ *b));
+        bits == 0 && self.library.len() == self.second.len()
+    }
+}
+
+/// The answer of a call with so many places of a buffer.
+fn in_front<F: FnOnce(&mut [u8]) -> Answer>(buffer: &mut [u8], room: usize, call: F) -> Answer
+    requires { F.IsAlwaysCallable call }
+{
+    match buffer.get_mut(0..room) {
+        Some(out) => call(out),
+        None => Err(Fault::plain(0)),
+    }
 }
 
 /// A tally for each kind of answer.
@@ -62,39 +97,40 @@ struct Tallies {
 }
 
 impl Tallies {
-    fn new() -> Tallies {
-        Tallies {
-            listings: Tally::counting("command, listings", "with turns"),
-            input: Tally::new("command, input refused"),
-            schedule: Tally::new("command, schedule refused"),
-            profile: Tally::new("command, profile refused"),
-            draw: Tally::new("command, draw refused"),
-            short: Tally::new("command, buffer too short"),
+    fn new(heap: Global) -> Result<Tallies, AllocError> {
+        Ok(Tallies {
+            listings: Tally::counting(heap, "command, listings", "with turns")?,
+            input: Tally::new(heap, "command, input refused")?,
+            schedule: Tally::new(heap, "command, schedule refused")?,
+            profile: Tally::new(heap, "command, profile refused")?,
+            draw: Tally::new(heap, "command, draw refused")?,
+            short: Tally::new(heap, "command, buffer too short")?,
+        })
+    }
+
+    fn of(&mut self, origin: Origin) -> &mut Tally {
+        match origin {
+            Origin::Input => &mut self.input,
+            Origin::Schedule => &mut self.schedule,
+            Origin::Profile => &mut self.profile,
+            Origin::Draw => &mut self.draw,
         }
     }
 
     /// A refusal counts as one where the library prints its line.
     fn hear(&mut self, printed: &Output, library: Answer, second: Answer, same: bool) {
-        match printed.rejected {
-            None => {
-                let turns = printed.text.len() > NAMES;
-                self.listings.hear_counting(library, second, same, turns);
-            }
-            Some(rejected) => {
-                let refusal = Err(rejected.fault);
-                let told = if same && library == second {
-                    refusal
-                } else {
-                    library
-                };
-                match rejected.origin {
-                    Origin::Input => self.input.hear(told, refusal, same),
-                    Origin::Schedule => self.schedule.hear(told, refusal, same),
-                    Origin::Profile => self.profile.hear(told, refusal, same),
-                    Origin::Draw => self.draw.hear(told, refusal, same),
-                }
-            }
-        }
+        let Some(rejected) = printed.rejected else {
+            let turns = printed.text.len() > NAMES;
+            self.listings.hear_counting(library, second, same, turns);
+            return;
+        };
+        let refusal = Err(rejected.fault);
+        let told = if same && library == second {
+            refusal
+        } else {
+            library
+        };
+        self.of(rejected.origin).hear(told, refusal, same);
     }
 
     fn in_order(self) -> [Tally; 6] {
@@ -110,168 +146,119 @@ impl Tallies {
     }
 }
 
-impl Buffers {
-    fn new(heap: Global) -> Buffers {
-        Buffers {
-            library: filled(heap, b'#', PLACES),
-            second: filled(heap, b'#', PLACES),
-        }
-    }
-
-    /// Both answers in so many places of the buffers.
-    fn ask(&mut self, input: &[u8], printed: &Output, room: usize) -> (Answer, Answer) {
-        (
-            self.ask_library(input, room),
-            self.ask_second(printed, room),
-        )
-    }
-
-    fn ask_library(&mut self, input: &[u8], room: usize) -> Answer {
-        match self.library.as_mut_slice().get_mut(0..room) {
-            Some(out) => sheet_answer_of(answer(input, out)),
-            None => Err(Fault::plain(0)),
-        }
-    }
-
-    fn ask_second(&mut self, printed: &Output, room: usize) -> Answer {
-        match self.second.as_mut_slice().get_mut(0..room) {
-            Some(out) => write_printed(printed, out),
-            None => Err(Fault::plain(0)),
-        }
-    }
-
-    /// All places are looked at, without stopping at a difference, which is faster by far.
-    fn are_same(&self) -> bool {
-        let mut bits: u8 = 0;
-        for (a, b) in self.library.iter().zip(self.second.iter()) {
-            bits |= *a ^ *b;
-        }
-        bits == 0 && self.library.len() == self.second.len()
-    }
-}
-
-/// All that a comparison needs.
+/// All that a comparison of the command works with.
 #[derive(Drop)]
-struct Bench {
-    heap: Global,
+struct CommandBench {
     generator: Generator,
     tallies: Tallies,
     buffers: Buffers,
 }
 
-impl Bench {
-    fn new(heap: Global) -> Bench {
-        Bench {
-            heap,
-            generator: Generator::new(16),
-            tallies: Tallies::new(),
-            buffers: Buffers::new(heap),
-        }
+impl CommandBench {
+    fn new(heap: Global) -> Result<CommandBench, AllocError> {
+        Ok(CommandBench {
+            generator: Generator::new(heap, 16),
+            tallies: Tallies::new(heap)?,
+            buffers: Buffers::new(heap)?,
+        })
     }
 
     /// One input, with room and in too short a buffer.
-    fn compare(&mut self, input: &[u8]) {
-        let printed = printed(self.heap, input);
+    fn compare(&mut self, input: &[u8]) -> Result<(), AllocError> {
+        let printed = printed(self.generator.heap, input)?;
         let room = self.generator.pick(&[ROOM, PLACES], ROOM);
-        let (library, second) = self.buffers.ask(input, &printed, room);
-        let same = self.buffers.are_same();
+        let (library, second, same) = self.buffers.ask(input, &printed, room);
         self.tallies.hear(&printed, library, second, same);
         let short = self.short(printed.text.len());
-        let (library, second) = self.buffers.ask(input, &printed, short);
-        let same = self.buffers.are_same();
+        let (library, second, same) = self.buffers.ask(input, &printed, short);
         self.tallies.short.hear(library, second, same);
+        Ok(())
     }
 
     /// Too few places: none, one too few, or enough for the text and still too few.
     fn short(&mut self, enough: usize) -> usize {
-        let most = ROOM.saturating_sub(1);
+        let most = ROOM - 1;
         self.generator.pick(&[0, enough, most], 0).min(most)
     }
 }
 
-pub fn run(heap: Global) -> [Tally; 6] {
-    let mut bench = Bench::new(heap);
+pub fn run(heap: Global) -> Result<[Tally; 6], AllocError> {
+    let mut bench = CommandBench::new(heap)?;
     for text in SHORT.iter() {
-        bench.compare(text.as_bytes());
+        bench.compare(text.as_bytes())?;
     }
-    compare_long(heap, &mut bench);
-    compare_large(heap, &mut bench);
+    compare_long(heap, &mut bench)?;
+    compare_large(heap, &mut bench)?;
     for _ in 0..ROUNDS {
-        let input = input(heap, &mut bench.generator);
-        bench.compare(input.as_slice());
+        let input = input(&mut bench.generator)?;
+        bench.compare(&input)?;
     }
-    bench.tallies.in_order()
+    Ok(bench.tallies.in_order())
 }
 
 /// Inputs about as long as one may be.
-fn compare_long(heap: Global, bench: &mut Bench) {
+fn compare_long(heap: Global, bench: &mut CommandBench) -> Result<(), AllocError> {
     for bytes in 32_766..32_771 {
-        let first = stretched(heap, b"taps,a,b,c\n2,1,", b",\n\nstation,height\n", bytes);
-        bench.compare(first.as_slice());
-        let second = stretched(heap, b"taps,a,b,c\n\nstation,height\n0,", b"\n", bytes);
-        bench.compare(second.as_slice());
-        let cut = stretched(heap, b"taps,a,b,c\n\nstation,height\n0,1\n", b"", bytes);
-        bench.compare(cut.as_slice());
+        let first = stretched(heap, "taps,a,b,c\n2,1,", ",\n\nstation,height\n", bytes)?;
+        bench.compare(&first)?;
+        let second = stretched(heap, "taps,a,b,c\n\nstation,height\n0,", "\n", bytes)?;
+        bench.compare(&second)?;
+        let cut = stretched(heap, "taps,a,b,c\n\nstation,height\n0,1\n", "", bytes)?;
+        bench.compare(&cut)?;
     }
+    Ok(())
 }
 
 /// As many stations and passes as there may be, and some more; all turns stay with the first pass, and none with the second.
-fn compare_large(heap: Global, bench: &mut Bench) {
+fn compare_large(heap: Global, bench: &mut CommandBench) -> Result<(), AllocError> {
     for stations in 2047..2050 {
         for passes in 23..26 {
-            let kept = large(heap, "2,1,0,\n", passes, stations);
-            bench.compare(kept.as_slice());
-            let lost = large(heap, "2,1,1,\n", passes, stations);
-            bench.compare(lost.as_slice());
+            let kept = large(heap, "2,1,0,\n", passes, stations)?;
+            bench.compare(kept.as_bytes())?;
+            let lost = large(heap, "2,1,1,\n", passes, stations)?;
+            bench.compare(lost.as_bytes())?;
         }
     }
+    Ok(())
 }
 
 /// Refusals of all kinds, and their lines.
-pub fn run_lines(heap: Global) -> Tally {
-    let mut tally = Tally::new("refusal lines");
-    let mut generator = Generator::new(17);
-    for _ in 0..LINES {
-        let (rejection, rejected) = refusal(&mut generator);
-        let line = rejection_line(heap, &rejected);
-        let room = room_for(&mut generator, line.len());
-        let mut out = filled(heap, b'#', room);
-        let mut other = filled(heap, b'#', room);
-        let library = write_rejection(rejection, out.as_mut_slice());
-        let second = write_text(line.as_slice(), other.as_mut_slice());
-        let same = out.as_slice() == other.as_slice()
-            && rejection.number() == rejected.fault.number
-            && rejection.line() == rejected.fault.line;
-        tally.hear(sheet_answer_of(library), second, same);
-    }
-    tally
+pub fn run_lines(heap: Global) -> Result<Tally, AllocError> {
+    Bench::new(heap, 17, Tally::new(heap, "refusal lines")?).run(LINES, line)
+}
+
+fn line(bench: &mut Bench) -> Result<(), AllocError> {
+    let heap = bench.heap();
+    let (rejection, rejected) = refusal(&mut bench.generator);
+    let line = rejection_line(heap, &rejected)?;
+    let room = room_for(&mut bench.generator, line.len());
+    let mut out = vec![in heap; b'#'; room]?;
+    let mut other = vec![in heap; b'#'; room]?;
+    let library = write_rejection(rejection, &mut out).map_err(Fault::from);
+    let second = write_text(&line, &mut other);
+    let same = out == other
+        && rejection.number() == rejected.fault.number
+        && rejection.line() == rejected.fault.line;
+    bench.tally.hear(library, second, same);
+    Ok(())
 }
 
 /// A refusal in the words of the library and of the second implementation.
 fn refusal(generator: &mut Generator) -> (Rejection, Rejected) {
     let (of_sheet, fault) = sheet_fault(generator);
-    let place = generator.place(REFUSALS.len());
-    let number = u8::try_from(place).unwrap_or(0).wrapping_add(1);
-    let cause = REFUSALS.get(place).copied().unwrap_or(Refusal::OutOfRange);
+    let (cause, number) = generator.pick(&REFUSALS, (Refusal::OutOfRange, 1));
     match generator.below(4) {
-        0 => (Rejection::Input, refused(Origin::Input, Fault::plain(24))),
+        0 => (Rejection::Input, Origin::Input.refused(Fault::plain(24))),
         1 => (
             Rejection::Schedule(of_sheet),
-            refused(Origin::Schedule, fault),
+            Origin::Schedule.refused(fault),
         ),
-        2 => (
-            Rejection::Profile(of_sheet),
-            refused(Origin::Profile, fault),
-        ),
+        2 => (Rejection::Profile(of_sheet), Origin::Profile.refused(fault)),
         _ => (
             Rejection::Draw(cause),
-            refused(Origin::Draw, Fault::plain(number)),
+            Origin::Draw.refused(Fault::plain(number)),
         ),
     }
-}
-
-fn refused(origin: Origin, fault: Fault) -> Rejected {
-    Rejected { origin, fault }
 }
 
 fn sheet_fault(generator: &mut Generator) -> (SheetFault, Fault) {

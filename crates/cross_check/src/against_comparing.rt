@@ -1,9 +1,11 @@
 //! Whether two schedules are the same smoothing: the library by primes, the second implementation by taps as fractions.
+use crate::bench::Bench;
 use crate::both::{Both, Request};
 use crate::generator::Generator;
 use crate::second::taps::Taps;
 use crate::tally::Tally;
 use primes::comparing::{Comparison, compare};
+use std::alloc::{AllocError, Global};
 
 const ROUNDS: u32 = 6000;
 
@@ -11,23 +13,26 @@ const MOST_PAIRS: usize = 8;
 
 type Pairs = [(u32, u32); 8];
 
-pub fn run() -> Tally {
-    let mut tally = Tally::counting("compare", "equal");
-    let mut generator = Generator::new(7);
-    for _ in 0..ROUNDS {
-        let (x, y) = alike(&mut generator);
-        hear(&mut tally, &x, &y);
-    }
-    tally
+pub fn run(heap: Global) -> Result<Tally, AllocError> {
+    Bench::new(heap, 7, Tally::counting(heap, "compare", "equal")?).run(ROUNDS, two)
 }
 
-pub fn hear(tally: &mut Tally, x: &Both, y: &Both) {
-    let library = match compare(&x.schedule, &y.schedule) {
-        Comparison::Equal => 1,
-        Comparison::Different => 0,
-    };
-    let second = usize::from(Taps::of(&x.list).agree_with(&Taps::of(&y.list)));
-    tally.hear_counting(Ok(library), Ok(second), true, library == 1);
+fn two(bench: &mut Bench) -> Result<(), AllocError> {
+    let heap = bench.heap();
+    let (x, y) = alike(&mut bench.generator);
+    let library = compare(&x.schedule, &y.schedule) == Comparison::Equal;
+    let second = Taps::of(heap, &x.list)?.agree_with(&Taps::of(heap, &y.list)?);
+    bench.tally.hear_counting(
+        Ok(usize::from(library)),
+        Ok(usize::from(second)),
+        true,
+        library,
+    );
+    Ok(())
+}
+
+fn pair(generator: &mut Generator, most: u32) -> (u32, u32) {
+    (generator.up_to(most), generator.up_to(most))
 }
 
 /// Two schedules of the same pairs, in another order and with other neighbours multiplied into triples; often with one more
@@ -35,8 +40,8 @@ pub fn hear(tally: &mut Tally, x: &Both, y: &Both) {
 fn alike(generator: &mut Generator) -> (Both, Both) {
     let most = generator.up_to(4).saturating_add(1);
     let mut pairs = [(1, 1); 8];
-    for pair in pairs.iter_mut() {
-        *pair = (generator.up_to(most), generator.up_to(most));
+    for spot in pairs.iter_mut() {
+        *spot = pair(generator, most);
     }
     let count = generator.place(MOST_PAIRS);
     let x = merged(generator, &pairs, count, 0);
@@ -50,31 +55,25 @@ fn alike(generator: &mut Generator) -> (Both, Both) {
 
 fn change(generator: &mut Generator, pairs: &mut Pairs, count: usize, most: u32) {
     let place = generator.place(count);
-    if let Some(pair) = pairs.get_mut(place) {
-        *pair = (generator.up_to(most), generator.up_to(most));
+    if let Some(spot) = pairs.get_mut(place) {
+        *spot = pair(generator, most);
     }
-}
-
-/// The pair at a place, counted round from `turn`.
-fn pair_at(pairs: &Pairs, count: usize, turn: usize, place: usize) -> (u32, u32) {
-    let round = place.saturating_add(turn).checked_rem(count).unwrap_or(0);
-    pairs.get(round).copied().unwrap_or((1, 1))
 }
 
 /// A schedule of the pairs from `turn` on and round, where neighbours are now and then one triple.
 fn merged(generator: &mut Generator, pairs: &Pairs, count: usize, turn: usize) -> Both {
-    let mut both = Both::new();
+    let mut both = Both::new(generator.heap);
     let mut held = None;
-    for place in 0..count {
-        let pair = pair_at(pairs, count, turn, place);
+    let used = pairs.get(0..count).unwrap_or(pairs);
+    for pair in used.iter().skip(turn).chain(used.iter().take(turn)) {
         held = match held {
-            None if generator.once_in(2) => Some(pair),
+            None if generator.once_in(2) => Some(*pair),
             None => {
-                add_pair(&mut both, pair);
+                add_pair(&mut both, *pair);
                 None
             }
             Some(first) => {
-                add_product(&mut both, first, pair);
+                add_product(&mut both, first, *pair);
                 None
             }
         };

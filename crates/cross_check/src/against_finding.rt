@@ -1,16 +1,16 @@
 //! Turns and crossings, with all that the tables then hold.
+use crate::bench::Bench;
 use crate::generator::Generator;
 use crate::inputs::{numbers, room_for};
-use crate::library::answer_of;
-use crate::lists::filled;
-use crate::second::faults::Answer;
+use crate::second::faults::{Answer, Fault};
 use crate::second::finding;
-use crate::second::finding::{CrossingRecord, TurnRecord};
+use crate::second::finding::{crossings_answer, turns_answer};
 use crate::tally::Tally;
+use samples::refusals::Refusal;
 use samples::{crossings, turns};
 use scale_space::crossings::{Crossing, Direction};
 use scale_space::turns::{Turn, TurnKind};
-use std::alloc::Global;
+use std::alloc::{AllocError, Global};
 
 const ROUNDS: u32 = 6000;
 /// What a table place holds before the call.
@@ -26,59 +26,61 @@ const CROSSING: Crossing = Crossing {
     direction: Direction::Down,
 };
 
-pub fn run_turns(heap: Global) -> Tally {
-    let mut tally = Tally::new("turns");
-    let mut generator = Generator::new(4);
-    for _ in 0..ROUNDS {
-        let samples = samples(heap, &mut generator, 0);
-        compare_turns(heap, &mut tally, &mut generator, samples.as_slice());
-    }
-    tally
+pub fn run_turns(heap: Global) -> Result<Tally, AllocError> {
+    Bench::new(heap, 4, Tally::new(heap, "turns")?).run(ROUNDS, compare_turns)
 }
 
-pub fn run_crossings(heap: Global) -> Tally {
-    let mut tally = Tally::new("crossings");
-    let mut generator = Generator::new(5);
-    for _ in 0..ROUNDS {
-        let scale = scale(&mut generator);
-        let height = height(&mut generator);
-        let level = i64::try_from(scale).unwrap_or(1).saturating_mul(height);
-        let samples = samples(heap, &mut generator, level);
-        compare_crossings(
-            heap,
-            &mut tally,
-            &mut generator,
-            samples.as_slice(),
-            scale,
-            height,
-        );
-    }
-    tally
+pub fn run_crossings(heap: Global) -> Result<Tally, AllocError> {
+    Bench::new(heap, 5, Tally::new(heap, "crossings")?).run(ROUNDS, compare_crossings)
+}
+
+fn compare_turns(bench: &mut Bench) -> Result<(), AllocError> {
+    let samples = samples(&mut bench.generator, 0)?;
+    let records = finding::turns(bench.heap(), &samples)?;
+    let room = room_for(&mut bench.generator, records.len());
+    let mut table = vec![in bench.heap(); TURN; room]?;
+    let library = turns::find(&samples, &mut table);
+    let second = turns_answer(records.len(), room);
+    let same = begins_with(&table, TURN, &second, &records);
+    bench.tally.hear(library.map_err(Fault::from), second, same);
+    Ok(())
+}
+
+fn compare_crossings(bench: &mut Bench) -> Result<(), AllocError> {
+    let scale = scale(&mut bench.generator);
+    let height = height(&mut bench.generator);
+    let level = i64::try_from(scale).unwrap_or(1).saturating_mul(height);
+    let samples = samples(&mut bench.generator, level)?;
+    let records = finding::crossings(bench.heap(), &samples, scale, height)?;
+    let room = room_for(&mut bench.generator, records.len());
+    let mut table = vec![in bench.heap(); CROSSING; room]?;
+    let library = crossings::find(&samples, scale, height, &mut table);
+    let second = crossings_answer(scale, height, records.len(), room);
+    let same = begins_with(&table, CROSSING, &second, &records);
+    bench.tally.hear(library.map_err(Fault::from), second, same);
+    Ok(())
 }
 
 /// Samples near a number, so that neighbours are often equal and often at the number itself; sometimes with the largest and
 /// the smallest that there are.
-fn samples(heap: Global, generator: &mut Generator, near: i64) -> Vec<i64> {
+fn samples(generator: &mut Generator, near: i64) -> Result<Vec<i64>, AllocError> {
     let count = generator.place(22);
     let around = generator.between(0, 3);
-    let mut samples = numbers(
-        heap,
-        generator,
-        count,
-        near.saturating_sub(around),
-        near.saturating_add(around),
-    );
+    let low = near.saturating_sub(around);
+    let high = near.saturating_add(around);
+    let mut samples = numbers(generator, count, low, high)?;
     if generator.once_in(5) {
-        let place = generator.place(count);
-        if let Some(sample) = samples.get_mut(place) {
-            *sample = if generator.once_in(2) {
-                i64::MIN
-            } else {
-                i64::MAX
-            };
-        }
+        generator.replace_one(&mut samples, extreme);
     }
-    samples
+    Ok(samples)
+}
+
+fn extreme(generator: &mut Generator) -> i64 {
+    if generator.once_in(2) {
+        i64::MIN
+    } else {
+        i64::MAX
+    }
 }
 
 pub fn scale(generator: &mut Generator) -> u64 {
@@ -95,72 +97,22 @@ fn height(generator: &mut Generator) -> i64 {
         generator.pick(&[100_000, -100_000, 100_001, -100_001], 0)
     } else {
         let most = generator.pick(&[2, 2, 100_000], 2);
-        generator.between(0i64.saturating_sub(most), most)
+        generator.around(most)
     }
-}
-
-pub fn compare_turns(heap: Global, tally: &mut Tally, generator: &mut Generator, samples: &[i64]) {
-    let records = finding::turns(heap, samples);
-    let room = room_for(generator, records.len());
-    let mut table = filled(heap, TURN, room);
-    let library = turns::find(samples, table.as_mut_slice());
-    let second = finding::turns_answer(records.len(), room);
-    let same = turns_are(table.as_slice(), &second, records.as_slice());
-    tally.hear(answer_of(library), second, same);
 }
 
 /// Whether a table begins with the records, unless they are refused, and is otherwise as it was.
-fn turns_are(table: &[Turn], answer: &Answer, records: &[TurnRecord]) -> bool {
-    for (place, turn) in table.iter().enumerate() {
-        let same = match records.get(place) {
-            Some(record) if answer.is_ok() => is_turn(turn, record),
-            _ => *turn == TURN,
-        };
-        if !same {
-            return false;
-        }
-    }
-    true
-}
-
-fn is_turn(turn: &Turn, record: &TurnRecord) -> bool {
-    turn.kind.number() == record.kind
-        && turn.place == record.place
-        && turn.numerator == record.numerator
-}
-
-fn compare_crossings(
-    heap: Global,
-    tally: &mut Tally,
-    generator: &mut Generator,
-    samples: &[i64],
-    scale: u64,
-    height: i64,
-) {
-    let records = finding::crossings(heap, samples, scale, height);
-    let room = room_for(generator, records.len());
-    let mut table = filled(heap, CROSSING, room);
-    let library = crossings::find(samples, scale, height, table.as_mut_slice());
-    let second = finding::crossings_answer(scale, height, records.len(), room);
-    let same = crossings_are(table.as_slice(), &second, records.as_slice());
-    tally.hear(answer_of(library), second, same);
-}
-
-fn crossings_are(table: &[Crossing], answer: &Answer, records: &[CrossingRecord]) -> bool {
-    for (place, crossing) in table.iter().enumerate() {
-        let same = match records.get(place) {
-            Some(record) if answer.is_ok() => is_crossing(crossing, record),
-            _ => *crossing == CROSSING,
-        };
-        if !same {
-            return false;
-        }
-    }
-    true
-}
-
-fn is_crossing(crossing: &Crossing, record: &CrossingRecord) -> bool {
-    crossing.direction.number() == record.direction
-        && crossing.from == record.from
-        && crossing.to == record.to
+fn begins_with<T: Copy + PartialEq, R: From<T> + PartialEq + Drop>(
+    table: &[T],
+    before: T,
+    answer: &Answer,
+    records: &[R],
+) -> bool {
+    let found = answer.unwrap_or(0);
+    table
+        .iter()
+        .zip(records.iter())
+        .take(found)
+        .all(|(place, record)| R::from(*place) == *record)
+        && table.iter().skip(found).all(|place| *place == before)
 }

@@ -1,7 +1,7 @@
 //! Single passes: reduction, admission and diffusion steps.
+use crate::bench::Bench;
 use crate::generator::Generator;
 use crate::inputs::{size, weight};
-use crate::library::{fault_of, weights_of};
 use crate::second::faults::Fault;
 use crate::second::passes::{Weights, reduced_step};
 use crate::tally::Tally;
@@ -10,63 +10,47 @@ use scale_space::passes::Pass;
 use schedule::pairs::Pair;
 use schedule::reduction::{reduce, reduce_step};
 use schedule::triples::Triple;
+use std::alloc::{AllocError, Global};
 
 const ROUNDS: u32 = 2000;
 
-pub fn run() -> Tally {
-    let mut tally = Tally::new("passes");
-    let mut generator = Generator::new(1);
-    for _ in 0..ROUNDS {
-        let most = size(&mut generator);
-        pair(&mut tally, &mut generator, most);
-        triple(&mut tally, &mut generator, most);
-        step(&mut tally, &mut generator);
-    }
-    tally
+pub fn run(heap: Global) -> Result<Tally, AllocError> {
+    Bench::new(heap, 1, Tally::new(heap, "passes")?).run(ROUNDS, passes)
+}
+
+fn passes(bench: &mut Bench) -> Result<(), AllocError> {
+    let generator = &mut bench.generator;
+    let most = size(generator);
+    pair(&mut bench.tally, generator, most);
+    triple(&mut bench.tally, generator, most);
+    step(&mut bench.tally, generator);
+    Ok(())
 }
 
 fn hear(tally: &mut Tally, library: Result<Pass, Refusal>, second: Result<Weights, Fault>) {
-    match (library, second) {
-        (Ok(pass), Ok(weights)) => tally.hear(
-            Ok(weights.count),
-            Ok(weights.count),
-            weights_of(pass) == weights,
-        ),
-        (Ok(pass), Err(fault)) => tally.hear(Ok(weights_of(pass).count), Err(fault), false),
-        (Err(refusal), Ok(weights)) => tally.hear(Err(fault_of(refusal)), Ok(weights.count), false),
-        (Err(refusal), Err(fault)) => tally.hear(Err(fault_of(refusal)), Err(fault), true),
-    }
+    let library = library.map(Weights::from).map_err(Fault::from);
+    tally.hear_values(library, second, |weights| weights.as_slice().len());
 }
 
 fn pair(tally: &mut Tally, generator: &mut Generator, most: u32) {
     let a = weight(generator, most);
     let b = weight(generator, most);
-    let made = match Pair::new(a, b) {
-        Ok(pair) => Ok(pair.pass()),
-        Err(refusal) => Err(refusal),
-    };
-    hear(
-        tally,
-        reduce(Pass::Pair(a, b)),
-        Weights::pair(a, b).reduced(),
-    );
-    hear(tally, made, Weights::pair(a, b).reduced());
+    let second = Weights::pair(a, b).reduced();
+    hear(tally, reduce(Pass::Pair(a, b)), second);
+    hear(tally, Pair::new(a, b).map(|pair| pair.pass()), second);
 }
 
 fn triple(tally: &mut Tally, generator: &mut Generator, most: u32) {
     let a = weight(generator, most);
     let b = weight(generator, most);
     let c = weight(generator, most);
-    let made = match Triple::new(a, b, c) {
-        Ok(triple) => Ok(triple.pass()),
-        Err(refusal) => Err(refusal),
-    };
+    let second = Weights::triple(a, b, c).reduced();
+    hear(tally, reduce(Pass::Triple(a, b, c)), second);
     hear(
         tally,
-        reduce(Pass::Triple(a, b, c)),
-        Weights::triple(a, b, c).reduced(),
+        Triple::new(a, b, c).map(|triple| triple.pass()),
+        second,
     );
-    hear(tally, made, Weights::triple(a, b, c).reduced());
 }
 
 /// The limits of p and q, 0 to q and 1 to 500, are often met and passed.
@@ -77,11 +61,11 @@ fn step(tally: &mut Tally, generator: &mut Generator) {
         2 => generator.up_to(3),
         _ => generator.up_to(500),
     };
-    let half = q.wrapping_shr(1);
+    let half = q / 2;
     let p = match generator.below(6) {
         0 => q.saturating_add(1),
         1 => half,
-        2 => half.saturating_add(1),
+        2 => half + 1,
         3 => q,
         _ => generator.up_to(half),
     };

@@ -1,69 +1,53 @@
 //! Prime tables of schedules.
-use crate::both::Both;
-use crate::generator::Generator;
+use crate::bench::Bench;
 use crate::inputs::both;
-use crate::library::weights_of;
-use crate::second::prime_tables::{comes_before, is_prime, piled};
+use crate::second::passes::Weights;
+use crate::second::prime_tables::{is_prime, piled};
 use crate::second::taps::Taps;
 use crate::tally::Tally;
 use primes::tables::PrimeTable;
 use scale_space::primes::PrimeCount;
+use std::alloc::{AllocError, Global};
 
 const ROUNDS: u32 = 1500;
 
-pub fn run() -> Tally {
-    let mut tally = Tally::counting("prime tables", "with split triples");
-    let mut generator = Generator::new(12);
-    for _ in 0..ROUNDS {
-        let both = both(&mut generator);
-        hear(&mut tally, &both);
-    }
-    tally
+pub fn run(heap: Global) -> Result<Tally, AllocError> {
+    let tally = Tally::counting(heap, "prime tables", "with split triples")?;
+    Bench::new(heap, 12, tally).run(ROUNDS, table)
 }
 
 /// A table has more primes than there are passes where a triple was split.
-fn hear(tally: &mut Tally, both: &Both) {
+fn table(bench: &mut Bench) -> Result<(), AllocError> {
+    let both = both(&mut bench.generator);
     let table = PrimeTable::of(&both.schedule);
     let records = table.as_slice();
-    let product = product_of(records);
-    let taps = Taps::of(&both.list);
+    let product = product_of(bench.heap(), records)?;
+    let taps = Taps::of(bench.heap(), &both.list)?;
     let right = are_primes(records) && are_in_order(records) && product.agree_with(&taps);
     let split = total(records) > both.list.len() as u64;
-    tally.hear_counting(Ok(product.reach()), Ok(taps.reach()), right, split);
+    bench
+        .tally
+        .hear_counting(Ok(product.reach()), Ok(taps.reach()), right, split);
+    Ok(())
 }
 
-fn product_of(records: &[PrimeCount]) -> Taps {
-    let mut taps = Taps::one();
-    for record in records.iter() {
-        taps = piled(&taps, &weights_of(record.prime), record.count);
-    }
-    taps
+fn product_of(heap: Global, records: &[PrimeCount]) -> Result<Taps, AllocError> {
+    records.iter().try_fold(Taps::one(heap)?, |taps, record| {
+        piled(taps, &Weights::from(record.prime), record.count)
+    })
 }
 
 fn are_primes(records: &[PrimeCount]) -> bool {
-    for record in records.iter() {
-        if record.count == 0 || !is_prime(&weights_of(record.prime)) {
-            return false;
-        }
-    }
-    true
+    records.iter().all(|record| record.count > 0 && is_prime(&Weights::from(record.prime)))
 }
 
 fn are_in_order(records: &[PrimeCount]) -> bool {
-    for two in records.windows(2) {
-        if let [first, second] = two {
-            if !comes_before(&weights_of(first.prime), &weights_of(second.prime)) {
-                return false;
-            }
-        }
-    }
-    true
+    records.iter().zip(records.iter().skip(1)).all(|(first, second)| Weights::from(first.prime)
+        < Weights::from(second.prime))
 }
 
 fn total(records: &[PrimeCount]) -> u64 {
-    let mut total: u64 = 0;
-    for record in records.iter() {
-        total = total.saturating_add(u64::from(record.count));
-    }
-    total
+    records.iter().fold(0, |total, record| {
+        u64::saturating_add(total, u64::from(record.count))
+    })
 }

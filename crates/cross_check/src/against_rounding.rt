@@ -1,23 +1,18 @@
 //! Rounding: halves, both signs, and the limits of scale and size.
 use crate::against_finding::scale;
+use crate::bench::Bench;
 use crate::generator::Generator;
 use crate::inputs::{marked, room_for};
-use crate::library::answer_of;
-use crate::lists::put;
+use crate::second::faults::Fault;
 use crate::second::rounding;
 use crate::tally::Tally;
 use samples::rounding::round;
-use std::alloc::Global;
+use std::alloc::{AllocError, Global};
 
 const ROUNDS: u32 = 6000;
 
-pub fn run(heap: Global) -> Tally {
-    let mut tally = Tally::new("rounding");
-    let mut generator = Generator::new(6);
-    for _ in 0..ROUNDS {
-        compare(heap, &mut tally, &mut generator);
-    }
-    tally
+pub fn run(heap: Global) -> Result<Tally, AllocError> {
+    Bench::new(heap, 6, Tally::new(heap, "rounding")?).run(ROUNDS, compare)
 }
 
 /// A numerator at a whole height, a half above or below it or one beside, or at the limit of size or one beyond.
@@ -42,21 +37,20 @@ pub fn numerator(generator: &mut Generator, scale: u64, once: u64) -> i64 {
     }
 }
 
-fn compare(heap: Global, tally: &mut Tally, generator: &mut Generator) {
+fn compare(bench: &mut Bench) -> Result<(), AllocError> {
+    let heap = bench.heap();
+    let generator = &mut bench.generator;
     let scale = scale(generator);
     let count = generator.place(9);
     let mut numerators = Vec::new(heap);
     for _ in 0..count {
-        put(&mut numerators, numerator(generator, scale, 12));
+        numerators.push(numerator(generator, scale, 12))?;
     }
     let room = room_for(generator, count);
-    let mut out = marked(heap, room);
-    let mut other = marked(heap, room);
-    let library = round(numerators.as_slice(), scale, out.as_mut_slice());
-    let second = rounding::round(numerators.as_slice(), scale, other.as_mut_slice());
-    tally.hear(
-        answer_of(library),
-        second,
-        out.as_slice() == other.as_slice(),
-    );
+    let mut out = marked(heap, room)?;
+    let mut other = marked(heap, room)?;
+    let library = round(&numerators, scale, &mut out).map_err(Fault::from);
+    let second = rounding::round(&numerators, scale, &mut other);
+    bench.tally.hear(library, second, out == other);
+    Ok(())
 }

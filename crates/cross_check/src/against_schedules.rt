@@ -1,23 +1,18 @@
 //! Histories of calls on a schedule.
-use crate::both::{Both, Request, are_same, call_of};
+use crate::bench::Bench;
+use crate::both::{Both, Request, are_same};
 use crate::generator::Generator;
 use crate::inputs::{addition, both, size};
-use crate::lists::put;
 use crate::tally::Tally;
-use schedule::history::replay;
-use std::alloc::Global;
+use schedule::history::{Call, replay};
+use std::alloc::{AllocError, Global};
 
 const ROUNDS: u32 = 300;
 
 const CALLS: u32 = 45;
 
-pub fn run(heap: Global) -> Tally {
-    let mut tally = Tally::new("schedules");
-    let mut generator = Generator::new(2);
-    for _ in 0..ROUNDS {
-        history(heap, &mut tally, &mut generator);
-    }
-    tally
+pub fn run(heap: Global) -> Result<Tally, AllocError> {
+    Bench::new(heap, 2, Tally::new(heap, "schedules")?).run(ROUNDS, history)
 }
 
 fn request(generator: &mut Generator, most: u32) -> Request {
@@ -30,20 +25,20 @@ fn request(generator: &mut Generator, most: u32) -> Request {
 }
 
 /// After each call the answers and what stands are compared, and at the end what the history, replayed, leaves standing.
-fn history(heap: Global, tally: &mut Tally, generator: &mut Generator) {
-    let mut both = Both::new();
-    let mut calls = Vec::new(heap);
-    let most = size(generator);
+fn history(bench: &mut Bench) -> Result<(), AllocError> {
+    let mut both = Both::new(bench.heap());
+    let mut calls = Vec::new(bench.heap());
+    let most = size(&mut bench.generator);
     for _ in 0..CALLS {
-        let request = request(generator, most);
+        let request = request(&mut bench.generator, most);
         let (library, second) = both.make(&request);
-        tally.hear(library, second, both.agree());
-        put(&mut calls, call_of(&request));
+        bench.tally.hear(library, second, both.agree());
+        calls.push(Call::from(&request))?;
     }
-    let replayed = replay(calls.as_slice());
-    tally.hear(
-        Ok(replayed.len()),
-        Ok(both.list.len()),
-        are_same(&replayed, &both.list),
-    );
+    let replayed = replay(&calls);
+    let same = are_same(&replayed, &both.list);
+    bench
+        .tally
+        .hear(Ok(replayed.len()), Ok(both.list.len()), same);
+    Ok(())
 }

@@ -1,106 +1,115 @@
 //! Walks up the levels of a schedule, with all that they show of each level.
-use crate::both::Both;
-use crate::generator::Generator;
-use crate::grounds::ground;
-use crate::inputs::both;
-use crate::library::fault_of;
-use crate::lists::filled;
+use crate::bench::Bench;
+use crate::grounds::Ground;
 use crate::second::drawing;
-use crate::second::faults::Answer;
+use crate::second::faults::{Answer, Fault};
 use crate::second::taps::Taps;
 use crate::tally::Tally;
 use levels::draw::draw;
 use levels::walks::Walk;
-use std::alloc::Global;
+use std::alloc::{AllocError, Global};
 
 const ROUNDS: u32 = 700;
 
-pub fn run(heap: Global) -> Tally {
-    let mut tally = Tally::new("walks");
-    let mut generator = Generator::new(15);
-    for _ in 0..ROUNDS {
-        let both = both(&mut generator);
-        let profile = ground(heap, &mut generator);
-        let last = generator.place(both.list.len().saturating_add(2));
-        step_up(heap, &mut tally, &both, profile.as_slice(), last);
-        let steps = generator.place(last.saturating_add(1));
-        climb_up(heap, &mut tally, &both, profile.as_slice(), last, steps);
-    }
-    tally
+pub fn run(heap: Global) -> Result<Tally, AllocError> {
+    Bench::new(heap, 15, Tally::new(heap, "walks")?).run(ROUNDS, walks)
 }
 
-/// A walk may set out exactly where its last level can be drawn.
-fn may_set_out(heap: Global, both: &Both, profile: &[i64], last: usize) -> Answer {
-    let mut work = filled(heap, 0, profile.len());
-    drawing::draw(&both.list, last, profile, work.as_mut_slice())?;
-    Ok(last)
+fn walks(bench: &mut Bench) -> Result<(), AllocError> {
+    let ground = Ground::some(&mut bench.generator)?;
+    let last = bench
+        .generator
+        .place(ground.both.list.len().saturating_add(2));
+    step_up(bench, &ground, last)?;
+    let steps = bench.generator.place(last.saturating_add(1));
+    climb_up(bench, &ground, last, steps)
 }
 
-/// One step for each level, and one more, which must change nothing.
-fn step_up(heap: Global, tally: &mut Tally, both: &Both, profile: &[i64], last: usize) {
-    let second = may_set_out(heap, both, profile, last);
-    match Walk::new(&both.schedule, last, profile) {
-        Ok(mut walk) => {
-            tally.hear(Ok(last), second, true);
-            here(heap, tally, both, profile, &walk, 0, true);
-            for k in 0..last.saturating_add(1) {
-                let right = walk.step() == (k < last);
-                let level = k.saturating_add(1).min(last);
-                here(heap, tally, both, profile, &walk, level, right);
-            }
+/// The second implementation's answer for level k, and the numbers that it draws.
+fn drawn(heap: Global, ground: &Ground, k: usize) -> Result<(Answer, Vec<i64>), AllocError> {
+    let mut work = vec![in heap; 0; ground.profile.len()]?;
+    let answer = drawing::draw(heap, &ground.both.list, k, &ground.profile, &mut work);
+    Ok((answer, work))
+}
+
+/// One step for each level, and one more, which must change nothing. A walk may set out exactly where its last level can be
+/// drawn.
+fn step_up(bench: &mut Bench, ground: &Ground, last: usize) -> Result<(), AllocError> {
+    let (answer, _) = drawn(bench.heap(), ground, last)?;
+    let second = answer.map(|_| last);
+    match Walk::new(&ground.both.schedule, last, &ground.profile) {
+        Ok(walk) => {
+            bench.tally.hear(Ok(last), second, true);
+            step_through(bench, ground, walk, last)
         }
-        Err(refusal) => tally.hear(Err(fault_of(refusal)), second, true),
+        Err(refusal) => {
+            bench.tally.hear(Err(Fault::from(refusal)), second, true);
+            Ok(())
+        }
     }
+}
+
+fn step_through(
+    bench: &mut Bench,
+    ground: &Ground,
+    mut walk: Walk,
+    last: usize,
+) -> Result<(), AllocError> {
+    here(bench, ground, &walk, 0, true)?;
+    for k in 0..=last {
+        let right = walk.step() == (k < last);
+        let level = k.saturating_add(1).min(last);
+        here(bench, ground, &walk, level, right)?;
+    }
+    Ok(())
 }
 
 /// Some steps, and then all the way up.
 fn climb_up(
-    heap: Global,
-    tally: &mut Tally,
-    both: &Both,
-    profile: &[i64],
+    bench: &mut Bench,
+    ground: &Ground,
     last: usize,
     steps: usize,
-) {
-    if let Ok(mut walk) = Walk::new(&both.schedule, last, profile) {
-        for _ in 0..steps {
-            walk.step();
-        }
-        walk.climb();
-        here(heap, tally, both, profile, &walk, last, true);
-        let right = !walk.step();
-        here(heap, tally, both, profile, &walk, last, right);
+) -> Result<(), AllocError> {
+    let Ok(mut walk) = Walk::new(&ground.both.schedule, last, &ground.profile) else {
+        return Ok(());
+    };
+    for _ in 0..steps {
+        walk.step();
     }
+    walk.climb();
+    here(bench, ground, &walk, last, true)?;
+    let right = !walk.step();
+    here(bench, ground, &walk, last, right)
 }
 
 /// The walk must have come to level k, which is compared with the one drawn by each implementation.
 fn here(
-    heap: Global,
-    tally: &mut Tally,
-    both: &Both,
-    profile: &[i64],
+    bench: &mut Bench,
+    ground: &Ground,
     walk: &Walk,
     k: usize,
     right: bool,
-) {
-    let mut work = filled(heap, 0, profile.len());
-    let second = drawing::draw(&both.list, k, profile, work.as_mut_slice());
-    let scale = Taps::of_first(&both.list, k).sum();
+) -> Result<(), AllocError> {
+    let heap = bench.heap();
+    let (second, work) = drawn(heap, ground, k)?;
+    let scale = Taps::of_first(heap, &ground.both.list, k)?.sum();
     let same = walk.level() == k
         && i128::from(walk.scale()) == scale
-        && work.as_slice().starts_with(walk.numerators())
-        && is_drawn(heap, both, profile, walk, k);
-    tally.hear(Ok(walk.numerators().len()), second, right && same);
+        && work.starts_with(walk.numerators())
+        && is_drawn(heap, ground, walk, k)?;
+    bench
+        .tally
+        .hear(Ok(walk.numerators().len()), second, right && same);
+    Ok(())
 }
 
-fn is_drawn(heap: Global, both: &Both, profile: &[i64], walk: &Walk, k: usize) -> bool {
-    let mut work = filled(heap, 0, profile.len());
-    match draw(&both.schedule, k, profile, work.as_mut_slice()) {
-        Ok(drawn) => {
-            drawn.length == walk.numerators().len()
-                && drawn.scale == walk.scale()
-                && work.as_slice().starts_with(walk.numerators())
-        }
-        Err(_) => false,
-    }
+fn is_drawn(heap: Global, ground: &Ground, walk: &Walk, k: usize) -> Result<bool, AllocError> {
+    let mut work = vec![in heap; 0; ground.profile.len()]?;
+    let drawn = draw(&ground.both.schedule, k, &ground.profile, &mut work);
+    Ok(drawn.is_ok_and(|drawn| {
+        drawn.length == walk.numerators().len()
+            && drawn.scale == walk.scale()
+            && work.starts_with(walk.numerators())
+    }))
 }

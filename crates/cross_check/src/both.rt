@@ -1,18 +1,19 @@
 //! A schedule of the library and one of the second implementation, led by the same calls.
-use crate::library::{answer_of, weights_of};
-use crate::second::faults::Answer;
+use crate::second::faults::{Answer, Fault};
+use crate::second::passes::Weights;
 use crate::second::schedules::PassList;
 use schedule::history::Call;
 use schedule::schedules::Schedule;
+use std::alloc::Global;
 
-#[derive(Clone, Copy)]
+#[derive(Clone, Drop)]
 pub struct Both {
     pub schedule: Schedule,
     pub list: PassList,
 }
 
 /// A call on both.
-#[derive(Clone, Copy)]
+#[derive(Drop)]
 pub enum Request {
     Pair(u32, u32),
     Triple(u32, u32, u32),
@@ -22,10 +23,10 @@ pub enum Request {
 }
 
 impl Both {
-    pub fn new() -> Both {
+    pub fn new(heap: Global) -> Both {
         Both {
             schedule: Schedule::new(),
-            list: PassList::new(),
+            list: PassList::new(heap),
         }
     }
 
@@ -33,19 +34,16 @@ impl Both {
     pub fn make(&mut self, request: &Request) -> (Answer, Answer) {
         let schedule = &mut self.schedule;
         let list = &mut self.list;
-        match *request {
-            Request::Pair(a, b) => (answer_of(schedule.add_pair(a, b)), list.add_pair(a, b)),
-            Request::Triple(a, b, c) => (
-                answer_of(schedule.add_triple(a, b, c)),
-                list.add_triple(a, b, c),
-            ),
-            Request::Step(p, q) => (answer_of(schedule.add_step(p, q)), list.add_step(p, q)),
-            Request::Withdraw(place) => (answer_of(schedule.withdraw(place)), list.withdraw(place)),
-            Request::Join(other) => (
-                answer_of(schedule.join(&other.schedule)),
-                list.join(&other.list),
-            ),
-        }
+        let (library, second) = match request {
+            Request::Pair(a, b) => (schedule.add_pair(*a, *b), list.add_pair(*a, *b)),
+            Request::Triple(a, b, c) => {
+                (schedule.add_triple(*a, *b, *c), list.add_triple(*a, *b, *c))
+            }
+            Request::Step(p, q) => (schedule.add_step(*p, *q), list.add_step(*p, *q)),
+            Request::Withdraw(place) => (schedule.withdraw(*place), list.withdraw(*place)),
+            Request::Join(other) => (schedule.join(&other.schedule), list.join(&other.list)),
+        };
+        (library.map_err(Fault::from), second)
     }
 
     pub fn agree(&self) -> bool {
@@ -55,27 +53,25 @@ impl Both {
 
 /// Whether the same passes stand in both, in the same order, and the scales are the same.
 pub fn are_same(schedule: &Schedule, list: &PassList) -> bool {
-    if schedule.len() != list.len() || u128::from(schedule.scale()) != list.scale() {
-        return false;
-    }
-    if schedule.as_slice().len() != list.len() {
-        return false;
-    }
-    for (place, pass) in schedule.as_slice().iter().enumerate() {
-        if list.get(place) != Some(weights_of(*pass)) {
-            return false;
-        }
-    }
-    true
+    let passes = schedule.as_slice();
+    schedule.len() == list.len()
+        && passes.len() == list.len()
+        && u128::from(schedule.scale()) == list.scale()
+        && passes
+            .iter()
+            .zip(list.as_slice().iter())
+            .all(|(pass, weights)| Weights::from(*pass) == *weights)
 }
 
 /// The library's value for a call.
-pub fn call_of(request: &Request) -> Call {
-    match *request {
-        Request::Pair(a, b) => Call::AddPair(a, b),
-        Request::Triple(a, b, c) => Call::AddTriple(a, b, c),
-        Request::Step(p, q) => Call::AddStep(p, q),
-        Request::Withdraw(place) => Call::Withdraw(place),
-        Request::Join(other) => Call::Join(other.schedule),
+impl From<&Request> for Call {
+    fn from(request: &Request) -> Call {
+        match request {
+            Request::Pair(a, b) => Call::AddPair(*a, *b),
+            Request::Triple(a, b, c) => Call::AddTriple(*a, *b, *c),
+            Request::Step(p, q) => Call::AddStep(*p, *q),
+            Request::Withdraw(place) => Call::Withdraw(*place),
+            Request::Join(other) => Call::Join(other.schedule),
+        }
     }
 }

@@ -1,14 +1,16 @@
 //! Numbers that look random and are the same in every run.
+use std::alloc::Global;
 
-/// A counter whose values are scrambled (SplitMix64).
+/// A counter whose values are scrambled (SplitMix64), and the memory for what is made of them.
 #[derive(Drop)]
 pub struct Generator {
+    pub heap: Global,
     state: u64,
 }
 
 impl Generator {
-    pub fn new(seed: u64) -> Generator {
-        Generator { state: seed }
+    pub fn new(heap: Global, seed: u64) -> Generator {
+        Generator { heap, state: seed }
     }
 
     fn next(&mut self) -> u64 {
@@ -26,7 +28,7 @@ impl Generator {
 
     /// A number from 0 to `most`.
     pub fn up_to(&mut self, most: u32) -> u32 {
-        u32::try_from(self.below(u64::from(most).saturating_add(1))).unwrap_or(most)
+        u32::try_from(self.below(u64::from(most) + 1)).unwrap_or(most)
     }
 
     /// A place from 0 to below `end`, and 0 where `end` is 0.
@@ -49,5 +51,20 @@ impl Generator {
     pub fn between(&mut self, low: i64, high: i64) -> i64 {
         let width = high.abs_diff(low).saturating_add(1);
         low.wrapping_add_unsigned(self.below(width))
+    }
+
+    /// A number from `-most` to `most`.
+    pub fn around(&mut self, most: i64) -> i64 {
+        self.between(most.saturating_neg(), most)
+    }
+
+    /// Puts what is made in the place of one of the items, if there is any.
+    pub fn replace_one<T: Copy, F: FnOnce(&mut Generator) -> T>(&mut self, items: &mut [T], make: F)
+        requires { F.IsAlwaysCallable make }
+    {
+        let place = self.place(items.len());
+        if let Some(item) = items.get_mut(place) {
+            *item = make(self);
+        }
     }
 }

@@ -1,13 +1,28 @@
 //! Profiles to draw levels from, and their sheets.
+use crate::both::Both;
 use crate::generator::Generator;
-use crate::inputs::numbers;
-use crate::lists::{put, put_bytes, put_number};
-use std::alloc::Global;
+use crate::inputs::{both, numbers};
+use std::alloc::{AllocError, Global};
+
+/// A schedule in both implementations, and a profile, which is sometimes refused.
+#[derive(Drop)]
+pub struct Ground {
+    pub both: Both,
+    pub profile: Vec<i64>,
+}
+
+impl Ground {
+    pub fn some(generator: &mut Generator) -> Result<Ground, AllocError> {
+        let both = both(generator);
+        let profile = profile(generator)?;
+        Ok(Ground { both, profile })
+    }
+}
 
 /// Lawful heights: few different ones, for flats, or many.
-pub fn lawful(heap: Global, generator: &mut Generator, count: usize) -> Vec<i64> {
-    let most = generator.pick(&[1, 3, 1000, 100_000], 1);
-    numbers(heap, generator, count, 0i64.saturating_sub(most), most)
+pub fn lawful(generator: &mut Generator, count: usize) -> Result<Vec<i64>, AllocError> {
+    let most: i64 = generator.pick(&[1, 3, 1000, 100_000], 1);
+    numbers(generator, count, most.saturating_neg(), most)
 }
 
 /// How many heights: mostly some tens.
@@ -17,49 +32,38 @@ pub fn count(generator: &mut Generator) -> usize {
 }
 
 /// Heights at the limits of length, or with one at or beyond the limits of size.
-fn limit(heap: Global, generator: &mut Generator) -> Vec<i64> {
+fn limit(generator: &mut Generator) -> Result<Vec<i64>, AllocError> {
     let end = count(generator);
     let count = generator.pick(&[0, 1, end, end, end, end, end, end, 2048, 2049], end);
-    let mut heights = lawful(heap, generator, count);
-    let place = generator.place(count);
-    if let Some(height) = heights.get_mut(place) {
-        *height = generator.pick(&[100_000, -100_000, 100_001, -100_001, i64::MIN], 0);
-    }
-    heights
+    let mut heights = lawful(generator, count)?;
+    generator.replace_one(&mut heights, |generator| {
+        generator.pick(&[100_000, -100_000, 100_001, -100_001, i64::MIN], 0)
+    });
+    Ok(heights)
 }
 
-/// A profile, which is sometimes refused.
-pub fn ground(heap: Global, generator: &mut Generator) -> Vec<i64> {
+fn profile(generator: &mut Generator) -> Result<Vec<i64>, AllocError> {
     if generator.once_in(4) {
-        limit(heap, generator)
+        limit(generator)
     } else {
         let count = count(generator);
-        lawful(heap, generator, count)
+        lawful(generator, count)
     }
 }
 
 /// So many heights that are as far apart as can be, and each a turn.
-pub fn alternating(heap: Global, count: usize) -> Vec<i64> {
-    let mut heights = Vec::new(heap);
-    let mut height: i64 = -100_000;
-    for _ in 0..count {
-        put(&mut heights, height);
-        height = height.saturating_neg();
-    }
-    heights
+pub fn alternating(heap: Global, count: usize) -> Result<Vec<i64>, AllocError> {
+    let places = 0..count;
+    places
+        .map(|place| if place % 2 == 0 { -100_000 } else { 100_000 })
+        .collect(heap)
 }
 
 /// The sheet of a profile.
-pub fn profile_text(heap: Global, heights: &[i64]) -> Vec<u8> {
-    let mut text = Vec::new(heap);
-    put_bytes(&mut text, b"station,height\n");
-    let mut station: i64 = 0;
-    for height in heights.iter() {
-        put_number(heap, &mut text, station);
-        put(&mut text, b',');
-        put_number(heap, &mut text, *height);
-        put(&mut text, b'\n');
-        station = station.saturating_add(1);
+pub fn profile_text(heap: Global, heights: &[i64]) -> Result<String, AllocError> {
+    let mut text = String::from_str(heap, "station,height\n")?;
+    for (station, height) in heights.iter().enumerate() {
+        writeln!(text, "{station},{height}")?;
     }
-    text
+    Ok(text)
 }

@@ -1,8 +1,7 @@
 //! Passes, schedules and lists of numbers to compare on.
 use crate::both::{Both, Request};
 use crate::generator::Generator;
-use crate::lists::put;
-use std::alloc::Global;
+use std::alloc::{AllocError, Global};
 
 /// How large the weights of a schedule are: small ones let many passes stand, large ones meet the limit of the scale.
 pub fn size(generator: &mut Generator) -> u32 {
@@ -54,7 +53,7 @@ pub fn addition(generator: &mut Generator, most: u32) -> Request {
 
 /// A schedule of some passes; refused calls are passed over.
 pub fn both(generator: &mut Generator) -> Both {
-    let mut both = Both::new();
+    let mut both = Both::new(generator.heap);
     let most = size(generator);
     for _ in 0..generator.below(34) {
         let request = addition(generator, most);
@@ -65,28 +64,22 @@ pub fn both(generator: &mut Generator) -> Both {
 
 /// A list of numbers from `low` to `high`.
 pub fn numbers(
-    heap: Global,
     generator: &mut Generator,
     count: usize,
     low: i64,
     high: i64,
-) -> Vec<i64> {
-    let mut numbers = Vec::new(heap);
+) -> Result<Vec<i64>, AllocError> {
+    let mut numbers = Vec::new(generator.heap);
     for _ in 0..count {
-        put(&mut numbers, generator.between(low, high));
+        numbers.push(generator.between(low, high))?;
     }
-    numbers
+    Ok(numbers)
 }
 
 /// A buffer that holds something of its own at each place, so that a place written, or left, is told apart.
-pub fn marked(heap: Global, room: usize) -> Vec<i64> {
-    let mut marked = Vec::new(heap);
-    let mut mark: i64 = 7_000_000_000_000_000_000;
-    for _ in 0..room {
-        put(&mut marked, mark);
-        mark = mark.wrapping_add(1);
-    }
-    marked
+pub fn marked(heap: Global, room: usize) -> Result<Vec<i64>, AllocError> {
+    let marks = 7_000_000_000_000_000_000i64..;
+    marks.take(room).collect(heap)
 }
 
 /// Places for so many: exactly enough mostly, sometimes one too few or some more.

@@ -1,5 +1,6 @@
 //! Counting agreements, and keeping the first difference of each kind.
-use crate::second::faults::Answer;
+use crate::second::faults::{Answer, Fault};
+use std::alloc::{AllocError, Global};
 
 /// The first input on which the two implementations differ.
 #[derive(Clone, Copy)]
@@ -12,34 +13,34 @@ pub struct Difference {
 /// The comparisons of one kind.
 #[derive(Drop)]
 pub struct Tally {
-    pub name: &'static str,
+    pub name: String,
     pub inputs: u64,
     pub agreeing: u64,
     /// How many of those agreeing are such as `word` says.
     pub counted: u64,
-    pub word: &'static str,
-    /// The refusals that were met, by number.
+    pub word: String,
+    /// The refusals that were met: a flag for each number, so that hearing needs no memory.
     pub met: [bool; 32],
     pub first: Option<Difference>,
 }
 
 impl Tally {
     /// A tally that counts refusals.
-    pub fn new(name: &'static str) -> Tally {
-        Tally::counting(name, "refusals")
+    pub fn new(heap: Global, name: &str) -> Result<Tally, AllocError> {
+        Tally::counting(heap, name, "refusals")
     }
 
     /// A tally of a kind that never refuses, which counts something else.
-    pub fn counting(name: &'static str, word: &'static str) -> Tally {
-        Tally {
-            name,
+    pub fn counting(heap: Global, name: &str, word: &str) -> Result<Tally, AllocError> {
+        Ok(Tally {
+            name: String::from_str(heap, name)?,
             inputs: 0,
             agreeing: 0,
             counted: 0,
-            word,
+            word: String::from_str(heap, word)?,
             met: [false; 32],
             first: None,
-        }
+        })
     }
 
     /// Takes the two answers to one input, and whether all else that the calls leave behind is the same.
@@ -48,6 +49,20 @@ impl Tally {
         self.hear_counting(library, second, same, refuses);
     }
 
+    /// Takes two answers of another kind, and what is counted of each. All of them must be the same.
+    pub fn hear_values<T: Copy + PartialEq, F: Fn(T) -> usize>(
+        &mut self,
+        library: Result<T, Fault>,
+        second: Result<T, Fault>,
+        count: F,
+    )
+        requires { F.IsAlwaysCallable count }
+    {
+        let same = library.ok() == second.ok();
+        self.hear(library.map(&count), second.map(&count), same);
+    }
+
+    // The counts may not overflow, and no contract bounds the inputs: so they saturate.
     pub fn hear_counting(&mut self, library: Answer, second: Answer, same: bool, counts: bool) {
         self.inputs = self.inputs.saturating_add(1);
         if same && library == second {
@@ -69,9 +84,5 @@ impl Tally {
                 *met = true;
             }
         }
-    }
-
-    pub fn is_whole(&self) -> bool {
-        self.agreeing == self.inputs
     }
 }

@@ -1,5 +1,5 @@
 //! Schedules compared.
-use crate::show;
+use crate::show::Passes;
 use primes::comparing::{Comparison, compare};
 use primes::tables::PrimeTable;
 use schedule::history::{Call, replay};
@@ -7,9 +7,8 @@ use schedule::schedules::Schedule;
 
 /// A schedule and its prime table.
 fn table(rt: &impl Print, schedule: &Schedule) -> anyhow::Result<()> {
-    print!(rt; "  ")?;
-    show::passes(rt, schedule)?;
-    print!(rt; " has the primes")?;
+    let passes = Passes(schedule);
+    print!(rt; "  {passes} has the primes")?;
     for record in PrimeTable::of(schedule).as_slice() {
         let prime = record.prime;
         let count = record.count;
@@ -25,16 +24,13 @@ fn verdict(rt: &impl Print, first: &[Call], second: &[Call]) -> anyhow::Result<b
     let y = replay(second);
     table(rt, &x)?;
     table(rt, &y)?;
-    match compare(&x, &y) {
-        Comparison::Equal => {
-            println!(rt; "    so they are equal: no profile tells them apart")?;
-            Ok(true)
-        }
-        Comparison::Different => {
-            println!(rt; "    so they are different: some profile tells them apart")?;
-            Ok(false)
-        }
+    let equal = compare(&x, &y) == Comparison::Equal;
+    if equal {
+        println!(rt; "    so they are equal: no profile tells them apart")?;
+    } else {
+        println!(rt; "    so they are different: some profile tells them apart")?;
     }
+    Ok(equal)
 }
 
 /// Compares some pairs of schedules; answers how many and how many of them are equal.
@@ -58,11 +54,6 @@ pub fn some_pairs(rt: &impl Print) -> anyhow::Result<(usize, usize)> {
         )?,
         verdict(rt, &[Call::AddTriple(2, 5, 2)], &[Call::AddTriple(1, 3, 1)])?,
     ];
-    let mut equal: usize = 0;
-    for same in verdicts {
-        if same {
-            equal = equal.saturating_add(1);
-        }
-    }
+    let equal = verdicts.iter().filter(|same| **same).count();
     Ok((verdicts.len(), equal))
 }

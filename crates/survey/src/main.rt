@@ -5,6 +5,7 @@ use level::Level;
 use scale_space::passes::Pass;
 use schedule::history::Call;
 use schedule::schedules::Schedule;
+use show::{Asked, Passes};
 
 mod comparing;
 mod level;
@@ -26,7 +27,7 @@ fn bad_pass(rt: &(impl Print + AllocGlobal), pass: Pass) -> anyhow::Result<()> {
     };
     show::level(rt, &ground)?;
     let before = show::turns_of(rt, &ground)?;
-    let level = level::weigh(rt.alloc(), pass, &HILL)?;
+    let level = Level::weigh(rt.alloc(), pass, &HILL)?;
     show::level(rt, &level)?;
     let after = show::turns_of(rt, &level)?;
     println!(rt; "  turns before: {before}, after: {after}")?;
@@ -40,17 +41,19 @@ fn edit(rt: &impl Print, calls: &[Call]) -> anyhow::Result<(Schedule, usize)> {
     let mut schedule = Schedule::new();
     let mut refused: usize = 0;
     for call in calls {
-        show::call(rt, call)?;
+        let asked = Asked(call);
         match schedule.make(call) {
-            Ok(count) => println!(rt; "accepted, passes now {count}")?,
+            Ok(count) => println!(rt; "  {asked}: accepted, passes now {count}")?,
             Err(refusal) => {
                 let number = refusal.number();
-                println!(rt; "refused with {number}, {refusal}")?;
+                println!(rt; "  {asked}: refused with {number}, {refusal}")?;
                 refused = refused.saturating_add(1);
             }
         }
     }
-    show::schedule(rt, &schedule)?;
+    let passes = Passes(&schedule);
+    let scale = schedule.scale();
+    println!(rt; "  schedule: {passes}, scale {scale}")?;
     println!(rt; "")?;
     Ok((schedule, refused))
 }
@@ -60,19 +63,17 @@ fn levels(
     rt: &(impl Print + AllocGlobal),
     schedule: &Schedule,
 ) -> anyhow::Result<(usize, usize, usize)> {
-    let mut count: usize = 0;
     let mut turns: usize = 0;
     let mut crossings: usize = 0;
     for k in 0..=schedule.len() {
         println!(rt; "3.{k} Level {k}")?;
-        let level = level::draw(rt.alloc(), schedule, k, &HILL)?;
+        let level = Level::draw(rt.alloc(), schedule, k, &HILL)?;
         show::level(rt, &level)?;
         turns = turns.saturating_add(show::turns_of(rt, &level)?);
         crossings = crossings.saturating_add(show::crossings_of(rt, &level, SIGHT_LINE)?);
-        count = count.saturating_add(1);
     }
     println!(rt; "")?;
-    Ok((count, turns, crossings))
+    Ok((schedule.len().saturating_add(1), turns, crossings))
 }
 
 fn tour(rt: &(impl Print + AllocGlobal)) -> anyhow::Result<()> {

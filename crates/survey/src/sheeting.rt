@@ -1,62 +1,61 @@
 //! A schedule written to a sheet and read back, and sheets that are refused.
-use anyhow::anyhow;
 use schedule::schedules::Schedule;
 use sheets::faults::SheetFault;
 use sheets::profiles::read_profile;
 use sheets::schedule_sheets::read_schedule;
 use sheets::writing::write_schedule;
-use std::str;
+use std::error::Error;
+use std::{fmt, str};
 
 /// More than the sheet of any schedule has.
 const MOST_BYTES: usize = 512;
 
-fn unexpected(fault: SheetFault) -> anyhow::Error {
-    let number = fault.number();
-    let line = fault.line();
-    anyhow!("refused with {number} at line {line}")
+/// A fault of a sheet, as the tour tells it.
+#[derive(Clone, Copy, Debug)]
+struct Refused {
+    number: u8,
+    line: usize,
 }
+
+impl From<SheetFault> for Refused {
+    fn from(fault: SheetFault) -> Refused {
+        Refused {
+            number: fault.number(),
+            line: fault.line(),
+        }
+    }
+}
+
+impl fmt::Display for Refused {
+    fn fmt<W: fmt::Write>(&self, f: &mut fmt::Formatter<W>) -> fmt::Result {
+        let number = self.number;
+        let line = self.line;
+        write!(f, "refused with {number} at line {line}")
+    }
+}
+
+impl Error for Refused {}
 
 /// Writes the schedule's sheet, shows it and reads it back; answers how many passes came back.
 fn there_and_back(rt: &impl Print, schedule: &Schedule) -> anyhow::Result<usize> {
     let mut out = [0; MOST_BYTES];
-    let bytes = match write_schedule(schedule, &mut out) {
-        Ok(bytes) => bytes,
-        Err(fault) => return Err(unexpected(fault)),
-    };
+    let bytes = write_schedule(schedule, &mut out).map_err(Refused::from)?;
     let sheet = out.get(0..bytes).unwrap_or(&[]);
     if let Ok(text) = str::from_utf8(sheet) {
         print!(rt; "{text}")?;
     }
     let mut back = Schedule::new();
-    match read_schedule(sheet, &mut back) {
-        Ok(count) => {
-            if back == *schedule {
-                println!(rt; "  {bytes} bytes written, {count} passes read back, the same")?;
-            }
-            Ok(count)
-        }
-        Err(fault) => Err(unexpected(fault)),
+    let count = read_schedule(sheet, &mut back).map_err(Refused::from)?;
+    if back == *schedule {
+        println!(rt; "  {bytes} bytes written, {count} passes read back, the same")?;
     }
+    Ok(count)
 }
 
-/// Shows what a schedule sheet is refused with.
-fn bad_schedule(rt: &impl Print, sheet: &[u8]) -> anyhow::Result<()> {
-    let mut schedule = Schedule::new();
-    if let Err(fault) = read_schedule(sheet, &mut schedule) {
-        let number = fault.number();
-        let line = fault.line();
-        println!(rt; "  a schedule sheet is refused with {number} at line {line}")?;
-    }
-    Ok(())
-}
-
-/// Shows what a profile sheet is refused with.
-fn bad_profile(rt: &impl Print, sheet: &[u8]) -> anyhow::Result<()> {
-    let mut heights = [0; 16];
-    if let Err(fault) = read_profile(sheet, &mut heights) {
-        let number = fault.number();
-        let line = fault.line();
-        println!(rt; "  a profile sheet is refused with {number} at line {line}")?;
+/// Shows what a sheet is refused with.
+fn show_fault(rt: &impl Print, name: &str, read: Result<usize, SheetFault>) -> anyhow::Result<()> {
+    if let Err(refused) = read.map_err(Refused::from) {
+        println!(rt; "  a {name} sheet is {refused}")?;
     }
     Ok(())
 }
@@ -64,7 +63,10 @@ fn bad_profile(rt: &impl Print, sheet: &[u8]) -> anyhow::Result<()> {
 /// Shows a round trip and two refusals; answers how many passes came back.
 pub fn sheets(rt: &impl Print, schedule: &Schedule) -> anyhow::Result<usize> {
     let count = there_and_back(rt, schedule)?;
-    bad_schedule(rt, b"taps,a,b,c\n3,1,2,1\n3,1,0,1\n")?;
-    bad_profile(rt, b"station,height\n0,-0\n")?;
+    let bad_schedule = b"taps,a,b,c\n3,1,2,1\n3,1,0,1\n";
+    let read = read_schedule(bad_schedule, &mut Schedule::new());
+    show_fault(rt, "schedule", read)?;
+    let read = read_profile(b"station,height\n0,-0\n", &mut [0; 16]);
+    show_fault(rt, "profile", read)?;
     Ok(count)
 }

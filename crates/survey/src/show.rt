@@ -7,32 +7,45 @@ use scale_space::crossings::{Crossing, Direction};
 use scale_space::turns::{Turn, TurnKind};
 use schedule::history::Call;
 use schedule::schedules::Schedule;
+use std::fmt;
 
 /// Room for what one small profile can hold.
 const PLACES: usize = 16;
 
-/// A line of numbers under a title, without its end.
-pub fn numbers(rt: &impl Print, title: &str, values: &[i64]) -> anyhow::Result<()> {
-    print!(rt; "  {title}:")?;
-    for value in values {
-        print!(rt; " {value}")?;
+/// Numbers under a title, on a line.
+#[derive(Clone, Copy)]
+pub struct Row<'a> {
+    pub title: &'a str,
+    pub values: &'a [i64],
+}
+
+impl fmt::Display for Row<'_> {
+    fn fmt<W: fmt::Write>(&self, f: &mut fmt::Formatter<W>) -> fmt::Result {
+        let title = self.title;
+        write!(f, "  {title}:")?;
+        for value in self.values {
+            write!(f, " {value}")?;
+        }
+        Ok(())
     }
-    Ok(())
 }
 
 /// A level: its numerators, and a picture of it rounded to whole heights.
 pub fn level(rt: &impl Print, level: &Level) -> anyhow::Result<()> {
     let scale = level.scale;
-    numbers(rt, "numerators", &level.numerators)?;
-    println!(rt; " over {scale}")?;
-    let mut out = [0; PLACES];
-    let count = match rounding::round(&level.numerators, scale, &mut out) {
-        Ok(count) => count,
-        Err(refusal) => return Err(unexpected(refusal)),
+    let numerators = Row {
+        title: "numerators",
+        values: &level.numerators,
     };
+    println!(rt; "{numerators} over {scale}")?;
+    let mut out = [0; PLACES];
+    let count = rounding::round(&level.numerators, scale, &mut out).map_err(unexpected)?;
     let heights = out.get(0..count).unwrap_or(&[]);
-    numbers(rt, "rounded", heights)?;
-    println!(rt; "")?;
+    let rounded = Row {
+        title: "rounded",
+        values: heights,
+    };
+    println!(rt; "{rounded}")?;
     picture(rt, heights)
 }
 
@@ -48,6 +61,7 @@ fn picture(rt: &impl Print, heights: &[i64]) -> anyhow::Result<()> {
     Ok(())
 }
 
+// The library's kinds and directions have no words of their own, and a type around each would be longer than these two matches.
 fn kind_name(kind: TurnKind) -> &'static str {
     match kind {
         TurnKind::Ridge => "ridge",
@@ -69,16 +83,14 @@ pub fn unexpected(refusal: Refusal) -> anyhow::Error {
 }
 
 /// Lists the turns of a level, and answers how many there are.
+// Apart from `crossings_of`: a function for both would take the search and the line as closures, and be no shorter.
 pub fn turns_of(rt: &impl Print, level: &Level) -> anyhow::Result<usize> {
     let mut table = [Turn {
         kind: TurnKind::Ridge,
         place: 0,
         numerator: 0,
     }; PLACES];
-    let found = match turns::find(&level.numerators, &mut table) {
-        Ok(found) => found,
-        Err(refusal) => return Err(unexpected(refusal)),
-    };
+    let found = turns::find(&level.numerators, &mut table).map_err(unexpected)?;
     let scale = level.scale;
     for turn in table.iter().take(found) {
         let kind = kind_name(turn.kind);
@@ -96,10 +108,9 @@ pub fn crossings_of(rt: &impl Print, level: &Level, height: i64) -> anyhow::Resu
         to: 0,
         direction: Direction::Up,
     }; PLACES];
-    let found = match crossings::find(&level.numerators, level.scale, height, &mut table) {
-        Ok(found) => found,
-        Err(refusal) => return Err(unexpected(refusal)),
-    };
+    let found = crossings::find(&level.numerators, level.scale, height, &mut table).map_err(
+        unexpected,
+    )?;
     for crossing in table.iter().take(found) {
         let way = direction_name(crossing.direction);
         let from = crossing.from;
@@ -110,36 +121,34 @@ pub fn crossings_of(rt: &impl Print, level: &Level, height: i64) -> anyhow::Resu
 }
 
 /// A call, by its arguments.
-pub fn call(rt: &impl Print, call: &Call) -> anyhow::Result<()> {
-    match call {
-        Call::AddPair(a, b) => print!(rt; "  add pair ({a}, {b}): ")?,
-        Call::AddTriple(a, b, c) => print!(rt; "  add triple ({a}, {b}, {c}): ")?,
-        Call::AddStep(p, q) => print!(rt; "  add step {p}/{q}: ")?,
-        Call::Withdraw(place) => print!(rt; "  withdraw {place}: ")?,
-        Call::Join(_) => print!(rt; "  join another: ")?,
+#[derive(Clone, Copy)]
+pub struct Asked<'a>(pub &'a Call);
+
+impl fmt::Display for Asked<'_> {
+    fn fmt<W: fmt::Write>(&self, f: &mut fmt::Formatter<W>) -> fmt::Result {
+        match self.0 {
+            Call::AddPair(a, b) => write!(f, "add pair ({a}, {b})"),
+            Call::AddTriple(a, b, c) => write!(f, "add triple ({a}, {b}, {c})"),
+            Call::AddStep(p, q) => write!(f, "add step {p}/{q}"),
+            Call::Withdraw(place) => write!(f, "withdraw {place}"),
+            Call::Join(_) => write!(f, "join another"),
+        }
     }
-    Ok(())
 }
 
 /// The passes that stand in a schedule.
-pub fn passes(rt: &impl Print, schedule: &Schedule) -> anyhow::Result<()> {
-    if schedule.len() == 0 {
-        print!(rt; "no pass")?;
-    }
-    for (place, pass) in schedule.as_slice().iter().enumerate() {
-        if place > 0 {
-            print!(rt; " ")?;
-        }
-        print!(rt; "{pass}")?;
-    }
-    Ok(())
-}
+#[derive(Clone, Copy)]
+pub struct Passes<'a>(pub &'a Schedule);
 
-/// The passes that stand, and their scale.
-pub fn schedule(rt: &impl Print, schedule: &Schedule) -> anyhow::Result<()> {
-    print!(rt; "  schedule: ")?;
-    passes(rt, schedule)?;
-    let scale = schedule.scale();
-    println!(rt; ", scale {scale}")?;
-    Ok(())
+impl fmt::Display for Passes<'_> {
+    fn fmt<W: fmt::Write>(&self, f: &mut fmt::Formatter<W>) -> fmt::Result {
+        let Some((first, rest)) = self.0.as_slice().split_first() else {
+            return write!(f, "no pass");
+        };
+        write!(f, "{first}")?;
+        for pass in rest {
+            write!(f, " {pass}")?;
+        }
+        Ok(())
+    }
 }

@@ -2,6 +2,7 @@
 use crate::second::faults::{Answer, Fault};
 use crate::second::schedules::PassList;
 use crate::second::taps::Taps;
+use std::alloc::Global;
 
 const MOST_HEIGHTS: usize = 2048;
 
@@ -10,7 +11,7 @@ const MOST_HEIGHT: i64 = 100_000;
 const MOST_WEIGHED: u128 = 144_115_188_075_855_872;
 
 /// Draws level k into `work` and answers its length; its scale is the sum of the taps of the first k passes.
-pub fn draw(list: &PassList, k: usize, profile: &[i64], work: &mut [i64]) -> Answer {
+pub fn draw(heap: Global, list: &PassList, k: usize, profile: &[i64], work: &mut [i64]) -> Answer {
     if k > list.len() {
         return Err(Fault::plain(4));
     }
@@ -20,32 +21,34 @@ pub fn draw(list: &PassList, k: usize, profile: &[i64], work: &mut [i64]) -> Ans
     if has_unlawful(profile) {
         return Err(Fault::plain(8));
     }
-    let taps = Taps::of_first(list, k);
-    if profile.len() <= taps.reach() {
+    let taps = Taps::of_first(heap, list, k)?;
+    let reach = taps.reach();
+    if profile.len() <= reach {
         return Err(Fault::plain(9));
     }
     if work.len() < profile.len() {
         return Err(Fault::plain(10));
     }
-    let length = profile.len().saturating_sub(taps.reach());
-    put_windows(&taps, profile, length, work);
-    clear(length, profile.len(), work);
+    let length = profile.len() - reach;
+    put_windows(&taps, profile, &mut work[..length]);
+    work[length..profile.len()].fill(0);
     Ok(length)
 }
 
 /// Lays the taps on every window of the samples.
 pub fn apply(taps: &Taps, samples: &[i64], out: &mut [i64]) -> Answer {
-    if samples.len() <= taps.reach() {
+    let reach = taps.reach();
+    if samples.len() <= reach {
         return Err(Fault::plain(9));
     }
-    let length = samples.len().saturating_sub(taps.reach());
+    let length = samples.len() - reach;
     if out.len() < length {
         return Err(Fault::plain(10));
     }
     if has_heavy(samples, taps.sum().unsigned_abs()) {
         return Err(Fault::plain(12));
     }
-    put_windows(taps, samples, length, out);
+    put_windows(taps, samples, &mut out[..length]);
     Ok(length)
 }
 
@@ -61,35 +64,20 @@ pub fn weigh(taps: &Taps, samples: &[i64]) -> Result<i128, Fault> {
 }
 
 fn has_unlawful(profile: &[i64]) -> bool {
-    for height in profile.iter() {
-        if *height > MOST_HEIGHT || *height < -MOST_HEIGHT {
-            return true;
-        }
-    }
-    false
+    profile
+        .iter()
+        .any(|height| *height > MOST_HEIGHT || *height < -MOST_HEIGHT)
 }
 
 fn has_heavy(samples: &[i64], scale: u128) -> bool {
-    for sample in samples.iter() {
-        if i128::from(*sample).unsigned_abs().saturating_mul(scale) > MOST_WEIGHED {
-            return true;
-        }
-    }
-    false
+    samples.iter().any(|sample| {
+        u128::from(sample.unsigned_abs()).saturating_mul(scale) > MOST_WEIGHED
+    })
 }
 
-fn put_windows(taps: &Taps, samples: &[i64], length: usize, out: &mut [i64]) {
-    for place in 0..length {
-        if let Some(number) = out.get_mut(place) {
-            *number = i64::try_from(taps.laid_at(samples, place)).unwrap_or(i64::MIN);
-        }
-    }
-}
-
-fn clear(from: usize, end: usize, work: &mut [i64]) {
-    for place in from..end {
-        if let Some(number) = work.get_mut(place) {
-            *number = 0;
-        }
+/// One number for each place of `out`.
+fn put_windows(taps: &Taps, samples: &[i64], out: &mut [i64]) {
+    for (place, number) in out.iter_mut().enumerate() {
+        *number = i64::try_from(taps.laid_at(samples, place)).unwrap_or(i64::MIN);
     }
 }

@@ -1,9 +1,9 @@
 //! Turns and crossings: the samples are first made into flats, or those at the height dropped, and then looked at in threes
 //! and twos.
-use crate::lists::put;
 use crate::second::faults::{Answer, Fault};
 use crate::second::rounding::is_scale;
-use std::alloc::Global;
+use std::alloc::{AllocError, Global};
+use std::fmt;
 
 const MOST_HEIGHT: i64 = 100_000;
 
@@ -14,20 +14,39 @@ struct Flat {
     numerator: i64,
 }
 
-/// A turn by its numbers: the kind is 1 for a ridge and 2 for a hollow.
-#[derive(Clone, Copy)]
+#[derive(Clone, Copy, PartialEq, Eq)]
+pub enum Kind {
+    Ridge,
+    Hollow,
+}
+
+impl fmt::Display for Kind {
+    fn fmt<W: fmt::Write>(&self, f: &mut fmt::Formatter<W>) -> fmt::Result {
+        f.write_str(match self {
+            Kind::Ridge => "ridge",
+            Kind::Hollow => "hollow",
+        })
+    }
+}
+
+#[derive(Clone, Copy, PartialEq, Eq)]
 pub struct TurnRecord {
-    pub kind: u8,
+    pub kind: Kind,
     pub place: usize,
     pub numerator: i64,
 }
 
-/// A crossing by its numbers: the direction is 1 for up and 2 for down.
-#[derive(Clone, Copy)]
+#[derive(Clone, Copy, PartialEq, Eq)]
+pub enum Way {
+    Up,
+    Down,
+}
+
+#[derive(Clone, Copy, PartialEq, Eq)]
 pub struct CrossingRecord {
     pub from: usize,
     pub to: usize,
-    pub direction: u8,
+    pub way: Way,
 }
 
 /// A sample that is not at the height.
@@ -37,96 +56,90 @@ struct Aside {
     above: bool,
 }
 
-fn flats_of(heap: Global, samples: &[i64]) -> Vec<Flat> {
+fn flats_of(heap: Global, samples: &[i64]) -> Result<Vec<Flat>, AllocError> {
     let mut flats = Vec::new(heap);
     let mut last = None;
     for (place, sample) in samples.iter().enumerate() {
         let numerator = *sample;
         if last != Some(numerator) {
-            put(&mut flats, Flat { place, numerator });
+            flats.push(Flat { place, numerator })?;
         }
         last = Some(numerator);
     }
-    flats
+    Ok(flats)
 }
 
-fn kind_of(before: i64, here: i64, after: i64) -> u8 {
+fn kind_of(before: i64, here: i64, after: i64) -> Option<Kind> {
     if before < here && after < here {
-        1
+        Some(Kind::Ridge)
     } else if before > here && after > here {
-        2
+        Some(Kind::Hollow)
     } else {
-        0
+        None
     }
 }
 
-fn put_turn(turns: &mut Vec<TurnRecord>, three: &[Flat]) {
-    if let [before, flat, after] = three {
-        let kind = kind_of(before.numerator, flat.numerator, after.numerator);
-        if kind != 0 {
-            put(
-                turns,
-                TurnRecord {
-                    kind,
-                    place: flat.place,
-                    numerator: flat.numerator,
-                },
-            );
-        }
-    }
+fn turn_of(three: &[Flat]) -> Option<TurnRecord> {
+    let [before, flat, after] = three else {
+        return None;
+    };
+    let kind = kind_of(before.numerator, flat.numerator, after.numerator)?;
+    Some(TurnRecord {
+        kind,
+        place: flat.place,
+        numerator: flat.numerator,
+    })
 }
 
-pub fn turns(heap: Global, samples: &[i64]) -> Vec<TurnRecord> {
-    let flats = flats_of(heap, samples);
-    let mut turns = Vec::new(heap);
-    for three in flats.as_slice().windows(3) {
-        put_turn(&mut turns, three);
+pub fn turns(heap: Global, samples: &[i64]) -> Result<Vec<TurnRecord>, AllocError> {
+    let flats = flats_of(heap, samples)?;
+    let threes = flats.windows(3);
+    threes.filter_map(|three| turn_of(three)).collect(heap)
+}
+
+fn aside_of(place: usize, sample: i64, level: i128) -> Option<Aside> {
+    let numerator = i128::from(sample);
+    if numerator == level {
+        return None;
     }
-    turns
+    let above = numerator > level;
+    Some(Aside { place, above })
 }
 
 /// The samples that are not at the height, whose numerator is `level`.
-fn asides_of(heap: Global, samples: &[i64], level: i128) -> Vec<Aside> {
-    let mut asides = Vec::new(heap);
-    for (place, sample) in samples.iter().enumerate() {
-        let numerator = i128::from(*sample);
-        if numerator != level {
-            put(
-                &mut asides,
-                Aside {
-                    place,
-                    above: numerator > level,
-                },
-            );
-        }
-    }
-    asides
+fn asides_of(heap: Global, samples: &[i64], level: i128) -> Result<Vec<Aside>, AllocError> {
+    let placed = samples.iter().enumerate();
+    placed
+        .filter_map(|(place, sample)| aside_of(place, *sample, level))
+        .collect(heap)
 }
 
-fn put_crossing(crossings: &mut Vec<CrossingRecord>, two: &[Aside]) {
-    if let [from, to] = two {
-        if from.above != to.above {
-            let direction = if to.above { 1 } else { 2 };
-            put(
-                crossings,
-                CrossingRecord {
-                    from: from.place,
-                    to: to.place,
-                    direction,
-                },
-            );
-        }
-    }
+fn crossing_of(two: &[Aside]) -> Option<CrossingRecord> {
+    let [from, to] = two else {
+        return None;
+    };
+    let way = match (from.above, to.above) {
+        (false, true) => Way::Up,
+        (true, false) => Way::Down,
+        _ => return None,
+    };
+    Some(CrossingRecord {
+        from: from.place,
+        to: to.place,
+        way,
+    })
 }
 
-pub fn crossings(heap: Global, samples: &[i64], scale: u64, height: i64) -> Vec<CrossingRecord> {
+pub fn crossings(
+    heap: Global,
+    samples: &[i64],
+    scale: u64,
+    height: i64,
+) -> Result<Vec<CrossingRecord>, AllocError> {
     let level = i128::from(height).saturating_mul(i128::from(scale));
-    let asides = asides_of(heap, samples, level);
-    let mut crossings = Vec::new(heap);
-    for two in asides.as_slice().windows(2) {
-        put_crossing(&mut crossings, two);
-    }
-    crossings
+    let asides = asides_of(heap, samples, level)?;
+    let twos = asides.windows(2);
+    twos.filter_map(|two| crossing_of(two)).collect(heap)
 }
 
 /// The answer for so many turns and so many table places.

@@ -3,64 +3,66 @@ use crate::second::faults::Fault;
 
 const MOST_WEIGHT: u64 = 1000;
 
-/// The weights of a pass, the first `count` of the three; the others are 0.
-#[derive(Clone, Copy, PartialEq, Eq)]
-pub struct Weights {
-    pub count: usize,
-    pub values: [u64; 3],
+/// The weights of a pass. Pairs come before triples, then the smaller weights, the first one first.
+#[derive(Clone, Copy, PartialEq, Eq, PartialOrd, Ord)]
+pub enum Weights {
+    Pair([u64; 2]),
+    Triple([u64; 3]),
 }
 
 impl Weights {
     pub fn pair(a: u32, b: u32) -> Weights {
-        Weights {
-            count: 2,
-            values: [u64::from(a), u64::from(b), 0],
-        }
+        Weights::Pair([a, b].map(u64::from))
     }
 
     pub fn triple(a: u32, b: u32, c: u32) -> Weights {
-        Weights {
-            count: 3,
-            values: [u64::from(a), u64::from(b), u64::from(c)],
+        Weights::Triple([a, b, c].map(u64::from))
+    }
+
+    pub fn as_slice(&self) -> &[u64] {
+        match self {
+            Weights::Pair(weights) => weights,
+            Weights::Triple(weights) => weights,
         }
     }
 
     pub fn sum(&self) -> u64 {
-        let [a, b, c] = self.values;
-        a.saturating_add(b).saturating_add(c)
+        self.as_slice()
+            .iter()
+            .fold(0, |sum, weight| sum.saturating_add(*weight))
     }
 
     fn has_large(&self) -> bool {
-        let [a, b, c] = self.values;
-        a > MOST_WEIGHT || b > MOST_WEIGHT || c > MOST_WEIGHT
+        self.as_slice().iter().any(|weight| *weight > MOST_WEIGHT)
     }
 
     fn is_admitted(&self) -> bool {
-        let [a, b, c] = self.values;
-        self.count < 3 || b.saturating_mul(b) >= a.saturating_mul(c).saturating_mul(4)
+        match *self {
+            Weights::Pair(_) => true,
+            Weights::Triple(weights) => {
+                let [a, b, c] = weights;
+                b.saturating_mul(b) >= a.saturating_mul(c).saturating_mul(4)
+            }
+        }
     }
 
     fn all_divide_by(&self, d: u64) -> bool {
-        let [a, b, c] = self.values;
-        leaves_none(a, d) && leaves_none(b, d) && leaves_none(c, d)
+        self.as_slice()
+            .iter()
+            .all(|weight| weight.checked_rem(d) == Some(0))
     }
 
     fn divided_by(&self, d: u64) -> Weights {
-        let [a, b, c] = self.values;
-        Weights {
-            count: self.count,
-            values: [part(a, d), part(b, d), part(c, d)],
+        match *self {
+            Weights::Pair(weights) => Weights::Pair(weights.map(|weight| part(weight, d))),
+            Weights::Triple(weights) => Weights::Triple(weights.map(|weight| part(weight, d))),
         }
     }
 
     /// Divides by the largest number that divides all, found by trying each.
     fn in_lowest_terms(&self) -> Weights {
-        let mut largest = 1;
-        for d in 2..1001 {
-            if self.all_divide_by(d) {
-                largest = d;
-            }
-        }
+        let mut numbers = (1..=MOST_WEIGHT).rev();
+        let largest = numbers.find(|d| self.all_divide_by(*d)).unwrap_or(1);
         self.divided_by(largest)
     }
 
@@ -79,12 +81,8 @@ impl Weights {
     }
 }
 
-fn leaves_none(n: u64, d: u64) -> bool {
-    n.checked_rem(d) == Some(0)
-}
-
-fn part(n: u64, d: u64) -> u64 {
-    n.checked_div(d).unwrap_or(0)
+fn part(weight: u64, d: u64) -> u64 {
+    weight.checked_div(d).unwrap_or(0)
 }
 
 /// The weights of the diffusion step p/q, reduced, or the first reason against them.
@@ -92,6 +90,5 @@ pub fn reduced_step(p: u32, q: u32) -> Result<Weights, Fault> {
     if q < 1 || q > 500 || p > q {
         return Err(Fault::plain(1));
     }
-    let rest = q.saturating_sub(p).saturating_mul(2);
-    Weights::triple(p, rest, p).reduced()
+    Weights::triple(p, 2 * (q - p), p).reduced()
 }

@@ -24,12 +24,9 @@ fn rounded(numerator: i64, scale: u64) -> i128 {
 
 fn has_large(numerators: &[i64], scale: u64) -> bool {
     let most = u128::from(scale).saturating_mul(MOST_HEIGHT);
-    for numerator in numerators.iter() {
-        if i128::from(*numerator).unsigned_abs() > most {
-            return true;
-        }
-    }
-    false
+    numerators
+        .iter()
+        .any(|numerator| u128::from(numerator.unsigned_abs()) > most)
 }
 
 pub fn round(numerators: &[i64], scale: u64, out: &mut [i64]) -> Answer {
@@ -42,10 +39,8 @@ pub fn round(numerators: &[i64], scale: u64, out: &mut [i64]) -> Answer {
     if has_large(numerators, scale) {
         return Err(Fault::plain(12));
     }
-    for (place, numerator) in numerators.iter().enumerate() {
-        if let Some(spot) = out.get_mut(place) {
-            *spot = i64::try_from(rounded(*numerator, scale)).unwrap_or(i64::MIN);
-        }
+    for (height, numerator) in out.iter_mut().zip(numerators.iter()) {
+        *height = i64::try_from(rounded(*numerator, scale)).unwrap_or(i64::MIN);
     }
     Ok(numerators.len())
 }
