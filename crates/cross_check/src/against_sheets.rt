@@ -8,7 +8,7 @@ use crate::second::{reading, writing};
 use crate::tally::Tally;
 use crate::texts::{long_profile, profile_sheet, schedule_sheet, stretched};
 use schedule::schedules::Schedule;
-use sheets::decimals::put_decimal;
+use sheets::decimals::put_number;
 use sheets::profiles::read_profile;
 use sheets::schedule_sheets::read_schedule;
 use sheets::writing::write_schedule;
@@ -121,7 +121,7 @@ fn decimal(bench: &mut Bench) -> Result<(), AllocError> {
     let room = bench.generator.place(24);
     let mut field = vec![in heap; b'#'; room]?;
     let mut other = vec![in heap; b'#'; room]?;
-    let library = put_decimal(number, &mut field).map_err(Fault::from);
+    let library = put_number(number, &mut field).map_err(Fault::from);
     let second = writing::put_decimal(heap, number, &mut other);
     bench.tally.hear(library, second, field == other);
     Ok(())
