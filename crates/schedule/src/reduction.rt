@@ -38,7 +38,7 @@ pub fn gcd3(a: u32, b: u32, c: u32) -> u32
     gcd(a, gcd(b, c))
 }
 
-// Here and below each kind names its weights: a list of them would first have to be made, and the pass be made of it again.
+// Here and below each kind names its weights: a list of them would first have to be made, and the pass then made of it again.
 
 /// The sum of a pass's weights.
 #[tactic(auto, unfolding(scale_space::specs::Taps::scale))]

@@ -29,6 +29,7 @@ impl Schedule {
     pub fn scale(&self) -> u64
         ensures { result ≡ product (passes self.now) }
     {
+        // A loop: as a `product` over the iterator it was tried, and the bound of each run of its items stayed open.
         let mut scale = 1;
         for pass in self.as_slice() {
             scale *= scale_of(*pass);
