@@ -11,6 +11,7 @@ const ROUNDS: u32 = 6000;
 
 const MOST_PAIRS: usize = 8;
 
+// All eight are drawn before their count, and a change among none draws too: a list of so many would alter the inputs.
 type Pairs = [(u32, u32); 8];
 
 pub fn run(heap: Global) -> Result<Tally, AllocError> {

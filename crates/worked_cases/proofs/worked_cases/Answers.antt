@@ -1,4 +1,4 @@
-use Rattle.std.proofs.Common.{◌≡◌, length, refl, ap, arith}
+use Rattle.std.proofs.Common.{rules}
 use Rattle.scale_space.specs.Divisors.{common, largest}
 use Rattle.scale_space.specs.Taps.{scale}
 use Rattle.scale_space.specs.Primes.{root}
@@ -9,19 +9,4 @@ use Rattle.worked_cases.proofs.worked_cases.Goals as goal
 
 pub returns : goal.returns
 unfolding common largest scale root rounded turns turns_of flats flats_after crossings crossings_of away
-returns c = record {
-  gap = refl;
-  near_miss = refl;
-  splits = refl;
-  prime = refl;
-  shift = refl;
-  shift_splits = refl;
-  step = refl;
-  step_splits = refl;
-  long_step = refl;
-  half_up = refl;
-  half_up_below = refl;
-  ridge = refl;
-  crosses = refl;
-  not_nothing = λ e. let same : 1 ≡ 0 = ap length e in omega arith;
-}
+returns c = search rules
