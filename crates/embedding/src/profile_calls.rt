@@ -10,6 +10,7 @@ use sheets::faults::SheetFault;
 use sheets::profiles::read_profile;
 
 /// Where the room is too short, the sheet is not at fault.
+// No `From`, since in another call the same fault is another obstacle.
 fn blame(fault: SheetFault) -> Obstacle
     ensures { result ≡ blamed fault }
 {

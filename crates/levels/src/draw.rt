@@ -97,6 +97,7 @@ fn lay_weights<const N: usize>(weights: [u32; N], work: &mut [i64], count: usize
     ensures { work.new ≡ laid count (windows weights.entry (take count work.old)) work.old }
 {
     let left = count - N + 1;
+    // By index: in place, each window reads ahead of the place that is written, and no iterator lends both.
     for i in 0..left {
         work[i] = weigh(&weights, &work[i..i + N]);
     }

@@ -20,14 +20,7 @@ pub fn gcd(a: u32, b: u32) -> u32
     ensures greatest { Greatest (a ∷ b ∷ []) result }
     ensures is { result ≡ common (a ∷ b ∷ []) }
 {
-    let mut x = a;
-    let mut y = b;
-    while y != 0 {
-        let rest = x % y;
-        x = y;
-        y = rest;
-    }
-    x
+    if b == 0 { a } else { gcd(b, a % b) }
 }
 
 /// The greatest common divisor of three numbers.

@@ -36,8 +36,7 @@ impl SheetFault {
         match self {
             SheetFault::TooLong => 0,
             SheetFault::WrongNames => 1,
-            SheetFault::Malformed { line } => line,
-            SheetFault::Refused { line } => line,
+            SheetFault::Malformed { line } | SheetFault::Refused { line } => line,
             SheetFault::BufferTooShort => 0,
         }
     }

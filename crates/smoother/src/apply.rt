@@ -28,6 +28,7 @@ fn lay(taps: &TapList, samples: &[i64], out: &mut [i64]) -> Result<usize, Refusa
     if !all_weighable(samples, taps.sum()) {
         return Err(Refusal::SampleTooLarge);
     }
+    // By index, since of what a loop over `iter_mut().zip(..)` writes nothing is known.
     for (i, window) in samples.windows(width).enumerate() {
         out[i] = taps.dot(window);
     }

@@ -62,6 +62,7 @@ impl TapList {
     }
 
     /// The taps laid on as many samples. The sums fit, since every sample is small at this scale.
+    // Apart from the weighing in `levels`, of 32-bit weights: a trait of weights would be longer than these two loops.
     pub(crate) fn dot(&self, samples: &[i64]) -> i64
         requires long { length (shown self.now) ≡ length samples.now }
         requires heavy { 1 ≤ scale (shown self.now) }
