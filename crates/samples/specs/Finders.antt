@@ -8,6 +8,8 @@ use Rattle.scale_space.specs.Signs.{Sign, below, level, above, side}
 use Rattle.scale_space.specs.Turns.{Spot, spot, flats_after, turning, turns_of}
 use Rattle.scale_space.specs.Crossings.{away, crossing, crossings_of}
 use Rattle.samples.specs.declared.crossings.CrossingFinder.{CrossingFinder}
+use Rattle.samples.specs.declared.turns.Heading.{Heading}
+use Rattle.samples.specs.declared.turns.Heading.TheVariants.{Level, Rising, Falling}
 use Rattle.samples.specs.declared.turns.TurnFinder.{TurnFinder}
 
 -- what one sample gives, put before what the rest gives
@@ -15,11 +17,11 @@ abbrev pub then : {A : Type 0} → Option A → List A → List A
 then (Some x) xs = x ∷ xs
 then None xs = xs
 
--- on which side of a number another lies, by how it compares to it
-abbrev pub sign_of : Ordering → Sign
-sign_of Less = below
-sign_of Equal = level
-sign_of Greater = above
+-- where a flat lies, seen from the flat before it
+abbrev pub came_from : Heading → Sign
+came_from Level = level
+came_from Rising = above
+came_from Falling = below
 
 -- the turns from the flat g on: it lies so to the flat before it, and the others follow
 unfoldable pub turns_from : Sign → Spot → List Spot → List Turn
@@ -28,7 +30,13 @@ turns_from s g (h ∷ fs) = turning s (side g.value h.value) g (turns_of (g ∷ 
 
 -- what a finder of turns gives for the samples from the place n on
 unfoldable pub turns_ahead : TurnFinder → ℕ → List ℤ → List Turn
-turns_ahead f n xs = turns_from (sign_of f.heading) (spot f.place f.last) (flats_after f.last n xs)
+turns_ahead f n xs = turns_from (came_from f.heading) (spot f.place f.last) (flats_after f.last n xs)
+
+-- on which side of a number another lies, by how it compares to it
+abbrev pub sign_of : Ordering → Sign
+sign_of Less = below
+sign_of Equal = level
+sign_of Greater = above
 
 -- on which side of the height the last sample off it lay, and its place
 abbrev pub seen_side : Option (Ordering × ℕ) → Sign

@@ -1,10 +1,9 @@
 //! The turns of a level.
-ghost use Rattle.std.specs.Prelude.{◌≡◌, List, length};
-ghost use Rattle.std.specs.Ordering.{ordering_reverse};
+ghost use Rattle.std.specs.Prelude.{◌≡◌, length};
 ghost use Rattle.std.proofs.Math.Path.{refl};
-ghost use Rattle.scale_space.specs.Turns.{spot, turning, turns, flats_after};
+ghost use Rattle.scale_space.specs.Turns.{turns, flats_after};
 ghost use Rattle.samples.specs.Answers.{listed, written};
-ghost use Rattle.samples.specs.Finders.{then, sign_of, turns_ahead, turns_from};
+ghost use Rattle.samples.specs.Finders.{turns_ahead, turns_from};
 
 use crate::finder;
 use crate::finder::{Finder, list};
@@ -12,12 +11,20 @@ use crate::refusals::Refusal;
 use scale_space::turns::{Turn, TurnKind};
 use std::cmp::Ordering;
 
-/// Reads along the samples, flat by flat.
+/// Where the samples are heading, as far as they have been read.
+// An enum of its own, and each sample moves it in place by one match: a form that the project fixes here.
+#[derive(Clone, Copy)]
+enum Heading {
+    Level,
+    Rising,
+    Falling,
+}
+
+/// Reads along the samples: it is level, rising or falling, and each sample moves it.
 #[derive(Clone, Copy)]
 struct TurnFinder {
-    /// How the flat that is being read compares to the one before it, and `Equal` where there is none before.
-    heading: Ordering,
-    /// The place of the flat's first sample.
+    heading: Heading,
+    /// The place of the first sample of the flat that is being read.
     place: usize,
     last: i64,
 }
@@ -28,26 +35,32 @@ impl TurnFinder {
         ensures { turns_ahead result 0 samples.now ≡ turns samples.now }
     {
         TurnFinder {
-            heading: Ordering::Equal,
+            heading: Heading::Level,
             place: 0,
             last: samples.first().copied().unwrap_or(0),
         }
     }
 
-    /// The flat that is being read, as a turn, if a sample that compares so to it makes it one.
-    fn turn(&self, next: Ordering) -> Option<Turn>
-        ensures { (ts : List Turn) → turning (sign_of self.now.heading) (sign_of (ordering_reverse next)) (spot self.now.place self.now.last) ts ≡ then result ts }
+    /// The flat that is being read, as a turn.
+    fn turn(&self, kind: TurnKind) -> Turn
+        ensures { result ≡ record { kind = kind; place = self.now.place; numerator = self.now.last } }
     {
-        let kind = match (self.heading, next) {
-            (Ordering::Less, Ordering::Greater) => TurnKind::Hollow,
-            (Ordering::Greater, Ordering::Less) => TurnKind::Ridge,
-            _ => return None,
-        };
-        Some(Turn {
+        Turn {
             kind,
             place: self.place,
             numerator: self.last,
-        })
+        }
+    }
+
+    /// Begins a flat at the place.
+    fn begin(&mut self, heading: Heading, place: usize, sample: i64)
+        ensures { self.new ≡ record { heading = heading; place = place; last = sample } }
+    {
+        *self = TurnFinder {
+            heading,
+            place,
+            last: sample,
+        };
     }
 }
 
@@ -59,17 +72,27 @@ impl Finder for TurnFinder {
     ghost nothing = { unfold turns_ahead turns_from flats_after in λ f n. refl };
 
     fn read(&mut self, place: usize, sample: i64) -> Option<Turn> {
-        let heading = sample.cmp(&self.last);
-        if heading.is_eq() {
-            return None;
+        match (self.heading, sample.cmp(&self.last)) {
+            (_, Ordering::Equal) => None,
+            (Heading::Falling, Ordering::Greater) => {
+                let hollow = self.turn(TurnKind::Hollow);
+                self.begin(Heading::Rising, place, sample);
+                Some(hollow)
+            }
+            (_, Ordering::Greater) => {
+                self.begin(Heading::Rising, place, sample);
+                None
+            }
+            (Heading::Rising, Ordering::Less) => {
+                let ridge = self.turn(TurnKind::Ridge);
+                self.begin(Heading::Falling, place, sample);
+                Some(ridge)
+            }
+            (_, Ordering::Less) => {
+                self.begin(Heading::Falling, place, sample);
+                None
+            }
         }
-        let turn = self.turn(heading);
-        *self = TurnFinder {
-            heading,
-            place,
-            last: sample,
-        };
-        turn
     }
 }
 
