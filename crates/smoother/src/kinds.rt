@@ -17,12 +17,14 @@ use schedule::schedules::Schedule;
 use schedule::singles::Single;
 
 /// The weights of a pass as taps.
-fn weights_of(pass: Pass) -> TapList
-    ensures { shown result ≡ weights pass }
-{
-    match pass {
-        Pass::Pair(a, b) => TapList::two(a, b),
-        Pass::Triple(a, b, c) => TapList::three(a, b, c),
+impl From<Pass> for TapList {
+    ghost from_gives = { λ pass list. shown list ≡ weights pass };
+
+    fn from(pass: Pass) -> TapList {
+        match pass {
+            Pass::Pair(a, b) => TapList::two(a, b),
+            Pass::Triple(a, b, c) => TapList::three(a, b, c),
+        }
     }
 }
 
@@ -40,7 +42,7 @@ impl<const N: usize> Smoother for Single<N> {
     ghost diminishing = { λ s. pass_diminishing _ (proper_means _ s.stands) };
 
     fn show(&self) -> TapList {
-        weights_of(self.pass())
+        TapList::from(self.pass())
     }
 }
 
@@ -52,7 +54,7 @@ pub fn taps_of(schedule: &Schedule) -> TapList
 {
     let mut taps = TapList::one();
     for pass in schedule.as_slice().iter().rev() {
-        taps = weights_of(*pass).pile(&taps);
+        taps = TapList::from(*pass).pile(&taps);
     }
     taps
 }

@@ -22,8 +22,8 @@ pile-taps-requires c =
     let ds = c.loop-pass.invariant.0 in
     let all : qs ++ (p ∷ ds) ≡ ps = sym (append_assoc qs (p ∷ []) ds) ∙ ap (λ l. l ++ ds) (sym c.in-Some.ensures.steps) ∙ c.loop-pass.invariant.1 in
     record {
-      short = next_short ps qs ds p _ _ all c.as_slice.ensures.standing c.weights_of.ensures c.loop-pass.invariant.2;
-      light = next_light ps qs ds p _ _ all c.as_slice.ensures.standing c.weights_of.ensures c.loop-pass.invariant.2;
+      short = next_short ps qs ds p _ _ all c.as_slice.ensures.standing c.from.ensures c.loop-pass.invariant.2;
+      light = next_light ps qs ds p _ _ all c.as_slice.ensures.standing c.from.ensures c.loop-pass.invariant.2;
     }
 
 pub loop-pass-preserved : goal.loop-pass-preserved
@@ -33,7 +33,7 @@ loop-pass-preserved c =
     let p = c.in-Some.pass.now in
     let ds = c.loop-pass.invariant.0 in
     let all : qs ++ (p ∷ ds) ≡ ps = sym (append_assoc qs (p ∷ []) ds) ∙ ap (λ l. l ++ ds) (sym c.in-Some.ensures.steps) ∙ c.loop-pass.invariant.1 in
-    (p ∷ ds, all, c.pile-taps.ensures ∙ ap₂ conv c.weights_of.ensures c.loop-pass.invariant.2)
+    (p ∷ ds, all, c.pile-taps.ensures ∙ ap₂ conv c.from.ensures c.loop-pass.invariant.2)
 
 pub returns : goal.returns
 returns c = record {
