@@ -16,9 +16,9 @@ fn value_line(line: &[u8], number: usize) -> Result<(u32, i64), SheetFault>
     ensures { result ≡ ok_or (option_map capped_both (station_height (cut 44 line.now))) (Malformed number) }
 {
     let (station, rest) = split(line, ',').ok_or(SheetFault::Malformed { line: number })?;
-    let station = Token { text: station, line: number }.number()?;
+    let station = Token::new(station, number).number()?;
     // A further comma is no part of a number, so what holds one is no height.
-    let height = Token { text: rest, line: number }.number()?;
+    let height = Token::new(rest, number).number()?;
     Ok((station, height))
 }
 

@@ -1,15 +1,16 @@
 //! Schedule sheets: a pass in each value line.
-ghost use Rattle.std.specs.Prelude.{◌≡◌, [], ◌∷◌, None, MatchOption};
+ghost use Rattle.std.specs.Prelude.{◌≡◌, ℕ, List, [], ◌∷◌, None, MatchOption};
 ghost use Rattle.std.specs.Option.{option_map, ok_or};
 ghost use Rattle.schedule.specs.Calls.{passes};
 ghost use Rattle.sheets.specs.declared.faults.SheetFault.TheVariants.{Malformed};
 ghost use Rattle.sheets.specs.Numbers.{natural};
+ghost use Rattle.sheets.specs.Tokens.{TokenOf};
 ghost use Rattle.sheets.specs.Lines.{cut};
 ghost use Rattle.sheets.specs.ScheduleSheets.{two, three, counts, pass_of, capped_pass, with_pass, schedule_of, standing_in, counted, in_place_of};
 
 use crate::faults::SheetFault;
 use crate::lines::{ReadsLines, after_names, split, walk};
-use crate::tokens::Token;
+use crate::tokens::{Field, Token};
 use scale_space::passes::Pass;
 use schedule::schedules::Schedule;
 
@@ -47,15 +48,13 @@ fn count_of(text: &[u8]) -> Option<TapCount>
 }
 
 fn read_pair(a: Token, b: Token) -> Result<Pass, SheetFault>
-    requires { a.line ≡ b.line }
-    ensures { result ≡ ok_or (option_map capped_pass (two (natural a.entry.text.now) (natural b.entry.text.now))) (Malformed a.entry.line) }
+    ensures { (x y : List ℕ) (n : ℕ) → TokenOf a.entry x n → TokenOf b.entry y n → result ≡ ok_or (option_map capped_pass (two (natural x) (natural y))) (Malformed n) }
 {
     Ok(Pass::Pair(a.number()?, b.number()?))
 }
 
 fn read_triple(a: Token, b: Token, c: Token) -> Result<Pass, SheetFault>
-    requires { (a.line ≡ b.line) × (a.line ≡ c.line) }
-    ensures { result ≡ ok_or (option_map capped_pass (three (natural a.entry.text.now) (natural b.entry.text.now) (natural c.entry.text.now))) (Malformed a.entry.line) }
+    ensures { (x y z : List ℕ) (n : ℕ) → TokenOf a.entry x n → TokenOf b.entry y n → TokenOf c.entry z n → result ≡ ok_or (option_map capped_pass (three (natural x) (natural y) (natural z))) (Malformed n) }
 {
     Ok(Pass::Triple(a.number()?, b.number()?, c.number()?))
 }
@@ -67,11 +66,15 @@ fn read_pass(text: &[u8], line: usize) -> Result<Pass, SheetFault>
     let malformed = SheetFault::Malformed { line };
     let (count, a, b, c) = four(text).ok_or(malformed)?;
     let count = count_of(count).ok_or(malformed)?;
-    let a = Token { text: a, line };
-    let b = Token { text: b, line };
+    let a = Token::new(a, line);
+    let b = Token::new(b, line);
+    let c = Token::new(c, line);
     match count {
-        TapCount::Two => if c.is_empty() { read_pair(a, b) } else { Err(malformed) },
-        TapCount::Three => read_triple(a, b, Token { text: c, line }),
+        TapCount::Two => match c.field {
+            Field::Empty(_) => read_pair(a, b),
+            Field::Number(_) => Err(malformed),
+        },
+        TapCount::Three => read_triple(a, b, c),
     }
 }
 
@@ -84,7 +87,8 @@ impl ReadsLines for Schedule {
 
     fn read_line(&mut self, line: &[u8], k: usize) -> Result<(), SheetFault> {
         let pass = read_pass(line, k + 2)?;
-        self.add(pass).map_err(|_| SheetFault::Refused { line: k + 2 })?;
+        self.add(pass)
+            .map_err(|_| SheetFault::Refused { line: k + 2 })?;
         Ok(())
     }
 }

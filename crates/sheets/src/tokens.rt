@@ -1,8 +1,9 @@
 //! The fields of a sheet and the numbers in them.
-ghost use Rattle.std.specs.Prelude.{◌≡◌, ℕ, ◌-◌, List, if◌then◌else◌, Some, None, Option};
+ghost use Rattle.std.specs.Prelude.{◌≡◌, ℕ, ◌-◌, List, [], refl, if◌then◌else◌, Some, None, Option};
 ghost use Rattle.std.specs.Option.{option_map, ok_or};
 ghost use Rattle.sheets.specs.declared.faults.SheetFault.TheVariants.{Malformed};
 ghost use Rattle.sheets.specs.Numbers.{digit, digits, value, natural, integer, capped, capped_integer};
+ghost use Rattle.sheets.specs.Tokens.{TokenOf};
 
 use crate::faults::SheetFault;
 
@@ -33,11 +34,15 @@ pub trait Numeral: Copy {
 
     fn read(text: &[u8]) -> Option<Self>
         ensures { result ≡ written text.now };
+
+    ghost empty: { written [] ≡ None };
 }
 
 /// A number without a sign: its first byte decides whether more may follow, since `0` stands alone.
 impl Numeral for u32 {
     ghost written = { λ bytes. option_map capped (natural bytes) };
+
+    ghost empty = { refl };
 
     fn read(text: &[u8]) -> Option<u32> {
         match text {
@@ -52,6 +57,8 @@ impl Numeral for u32 {
 impl Numeral for i64 {
     ghost written = { λ bytes. option_map capped_integer (integer bytes) };
 
+    ghost empty = { refl };
+
     fn read(text: &[u8]) -> Option<i64> {
         match text {
             [b'-', rest @ ..] => match u32::read(rest)? {
@@ -63,18 +70,40 @@ impl Numeral for i64 {
     }
 }
 
-/// A field, which borrows the sheet, and the line that it stands in.
+/// The bytes of a field, which borrow the sheet.
+// An `Option` would serve, but this is a form that the project fixes here: both cases of a field borrow its bytes.
+#[derive(Clone, Copy)]
+pub enum Field<'a> {
+    Number(&'a [u8]),
+    Empty(&'a [u8]),
+}
+
+/// A field and the line that it stands in.
 #[derive(Clone, Copy)]
 pub struct Token<'a> {
-    pub text: &'a [u8],
+    pub field: Field<'a>,
     pub line: usize,
 }
 
 impl<'a> Token<'a> {
+    pub fn new(text: &'a [u8], line: usize) -> Token<'a>
+        ensures { TokenOf result text.now line }
+    {
+        let field = if text.is_empty() {
+            Field::Empty(text)
+        } else {
+            Field::Number(text)
+        };
+        Token { field, line }
+    }
+
     /// The number that the field must hold.
     pub fn number<N: Numeral>(self) -> Result<N, SheetFault>
-        ensures { result ≡ ok_or (N.written self.entry.text.now) (Malformed self.entry.line) }
+        ensures { (bs : List ℕ) (n : ℕ) → TokenOf self.entry bs n → result ≡ ok_or (N.written bs) (Malformed n) }
     {
-        N::read(self.text).ok_or(SheetFault::Malformed { line: self.line })
+        match self.field {
+            Field::Number(text) => N::read(text).ok_or(SheetFault::Malformed { line: self.line }),
+            Field::Empty(_) => Err(SheetFault::Malformed { line: self.line }),
+        }
     }
 }
