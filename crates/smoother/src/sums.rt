@@ -14,6 +14,7 @@ pub fn tap(p: &[u64], q: &[u64], place: usize) -> u64
     requires { (scale p.now * scale q.now ≤ 2 ^ 40) × (place ≤ 49) }
     ensures { result ≡ slice_index (conv p.now q.now) place }
 {
+    // A loop: as a chain over the places it was tried, and the bounds of its products and of its sum stayed open.
     let mut total = 0;
     for i in 0..=place {
         total += at(p, i) * at(q, place - i);
