@@ -79,10 +79,8 @@ impl Buffers {
 fn in_front<F: FnOnce(&mut [u8]) -> Answer>(buffer: &mut [u8], room: usize, call: F) -> Answer
     requires { F.IsAlwaysCallable call }
 {
-    match buffer.get_mut(0..room) {
-        Some(out) => call(out),
-        None => Err(Fault::plain(0)),
-    }
+    let out = buffer.get_mut(0..room).ok_or(Fault::plain(0))?;
+    call(out)
 }
 
 /// A tally for each kind of answer.
