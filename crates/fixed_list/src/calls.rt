@@ -1,6 +1,6 @@
 //! The calls that make a list and edit it. Where one needs room or an item, it requires so, as an index of a slice does: the
 //! caller knows, or tests first.
-ghost use Rattle.std.specs.Prelude.{◌≡◌, ◌+◌, ◌<◌, ◌≤◌, [], ◌∷◌, ◌++◌, length, take, insert, remove, slice_set};
+ghost use Rattle.std.specs.Prelude.{◌≡◌, ◌+◌, ◌<◌, ◌≤◌, [], ◌∷◌, ◌++◌, length, insert, remove, slice_set};
 ghost use Rattle.fixed_list.specs.Listed.{listed};
 
 use crate::FixedList;
@@ -62,12 +62,5 @@ impl<T: Copy, const N: usize> FixedList<T, N> {
         let room = &mut self.items[..];
         room[self.len..end].copy_from_slice(more);
         self.len = end;
-    }
-
-    /// Keeps the first `len` items, or all where there are no more.
-    pub fn truncate(&mut self, len: usize)
-        ensures { listed self.new ≡ take len (listed self.old) }
-    {
-        self.len = self.len.min(len);
     }
 }
