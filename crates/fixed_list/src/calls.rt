@@ -1,11 +1,14 @@
 //! The calls that make a list and edit it. Where one needs room or an item, it requires so, as an index of a slice does: the
 //! caller knows, or tests first.
-ghost use Rattle.std.specs.Prelude.{◌≡◌, ◌+◌, ◌<◌, ◌≤◌, [], ◌∷◌, ◌++◌, length, take, insert, remove, slice_set};
+ghost use Rattle.std.specs.Prelude.{◌≡◌, ◌+◌, ◌<◌, ◌≤◌, [], ◌∷◌, ◌++◌, length, insert, remove, slice_set, slice_index_or};
+ghost use Rattle.std.specs.Borrow.{sem};
 ghost use Rattle.fixed_list.specs.Listed.{listed};
 
 use crate::FixedList;
 
 impl<T: Copy, const N: usize> FixedList<T, N> {
+    ghost use Rattle.fixed_list.specs.Lends.{lends_item};
+
     /// No item. The room is filled with `blank`.
     pub fn new(blank: T) -> Self
         ensures { listed result ≡ [] }
@@ -22,6 +25,15 @@ impl<T: Copy, const N: usize> FixedList<T, N> {
         ensures { listed self.new ≡ slice_set (listed self.old) place item }
     {
         self.items[place] = item;
+    }
+
+    /// Lends an item, for writing.
+    pub fn item_mut(&mut self, place: usize) -> &mut T
+        requires { place < length (listed self.old) }
+        ensures* writes_back { sem 𝓛 (lends_item T.row N.row self.entry place result) }
+        ensures value { result.now ≡ slice_index_or (listed self.old) place result.now }
+    {
+        &mut self.items[place]
     }
 
     /// Puts an item at the end.
@@ -62,12 +74,5 @@ impl<T: Copy, const N: usize> FixedList<T, N> {
         let room = &mut self.items[..];
         room[self.len..end].copy_from_slice(more);
         self.len = end;
-    }
-
-    /// Keeps the first `len` items, or all where there are no more.
-    pub fn truncate(&mut self, len: usize)
-        ensures { listed self.new ≡ take len (listed self.old) }
-    {
-        self.len = self.len.min(len);
     }
 }

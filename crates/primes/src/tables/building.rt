@@ -40,17 +40,23 @@ impl PrimeTable {
             .binary_search_by_key(&prime, |record| record.prime)
     }
 
+    /// Raises the count at a place by one.
+    fn raise(&mut self, place: usize)
+        requires place { place < length (entries self.old) }
+        requires room { counted (entries self.old) < 48 }
+        ensures { entries self.new ≡ slice_set (entries self.old) place (raised (slice_index_or (entries self.old) place blank)) }
+    {
+        let record = self.list.item_mut(place);
+        record.count += 1;
+    }
+
     /// Counts one more `prime`.
     fn add(&mut self, prime: Pass)
         requires { counted (entries self.old) < 48 }
         ensures { entries self.new ≡ added (entries self.old) prime }
     {
         match self.find(prime) {
-            Ok(place) => {
-                let mut record = self.as_slice()[place];
-                record.count += 1;
-                self.list.set(place, record);
-            }
+            Ok(place) => self.raise(place),
             Err(place) => self.list.insert(place, PrimeCount { prime, count: 1 }),
         }
     }

@@ -3,8 +3,8 @@ use Rattle.primes.specs.Entries.{entries}
 use Rattle.primes.proofs.Standing.{held}
 use Rattle.primes.proofs.tables.PrimeTable.add.Goals as goal
 
-pub invariant_of-self-in-Err : goal.invariant_of-self-in-Err
-invariant_of-self-in-Err c =
+pub invariant_of-self : goal.invariant_of-self
+invariant_of-self c =
     let t = c.args.self.now in
     let found = c.in-Err.ensures in
     held (entries t) _ c.args.prime c.in-Err.place c.insert.ensures found.is_new found.range t.ordered t.some c.requires
