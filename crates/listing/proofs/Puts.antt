@@ -69,7 +69,6 @@ module _ {a b c d e f : List ℕ} {at : ℕ} {out : List ℕ} (room : RoomOfSix 
   room_e = room_back d _ room_d
 
   module _ {n₁ : ℕ} {o₁ : List ℕ} (p₁ : Put f at out n₁ o₁) where
-
     module _ {n₂ : ℕ} {o₂ : List ℕ} (p₂ : Put e n₁ o₁ n₂ o₂) where
       two : Put (e ++ f) at out n₂ o₂
       two = put_next e f room_e p₁ p₂

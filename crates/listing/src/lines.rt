@@ -99,7 +99,11 @@ fn names_before(level: usize) -> &'static [u8]
 
 /// Writes the names and the lines of these turns, whose numerators are their heights. Their size is found first, so that a
 /// refusal leaves `out` as it was.
-pub(crate) fn write_heights(level: usize, turns: &[Turn], out: &mut [u8]) -> Result<usize, SheetFault>
+pub(crate) fn write_heights(
+    level: usize,
+    turns: &[Turn],
+    out: &mut [u8],
+) -> Result<usize, SheetFault>
     requires { length turns.now ≤ 2048 }
     ensures answers { result ≡ (answer (Ok (names level ++ flat_map (height_line level) turns.now)) out.old).0 }
     ensures writes { out.new ≡ (answer (Ok (names level ++ flat_map (height_line level) turns.now)) out.old).1 }

@@ -1,4 +1,5 @@
 pub mod Halves
+pub mod Records
 pub mod Standing
 pub mod Taking
 pub mod Verdict

@@ -13,6 +13,15 @@ use Rattle.samples.specs.Answers.{height_lawful}
 use Rattle.sheets.proofs.Basics.{clash, is_some}
 use Rattle.sheets.proofs.Numerals.{Free, free_digits, cut_last, glue, glue_cut}
 
+-- two fields, or more
+pub pair_two : (l s r : List ℕ) → cut 44 l ≡ s ∷ cut 44 r → cut 44 r ≡ r ∷ [] → station_height (cut 44 l) ≡ both (natural s) (integer r)
+pair_two l s r e f = ap station_height (e ∙ ap (λ q. s ∷ q) f)
+
+pub pair_more : (l s r a b : List ℕ) → cut 44 l ≡ s ∷ cut 44 r → cut 44 r ≡ a ∷ cut 44 b → station_height (cut 44 l) ≡ None
+pair_more l s r a b e f =
+    let g = cut_some 44 b in
+    ap station_height (e ∙ ap (λ q. s ∷ q) (f ∙ ap (λ q. a ∷ q) g.2))
+
 -- no comma stands in a height
 height_free : (r : List ℕ) (h : ℤ) → integer r ≡ Some h → Free 44 r
 height_free [] h e = clash cc
@@ -64,6 +73,10 @@ module _ (e : SheetFault) where
       let y : b ≡ capped_integer h = cc in
       λ i. Ok (x i, y i)
 
+  line_left : (o : Option ℕ) (p : Option ℤ) (y : SheetFault) → Err y ≡ ok_or (option_map capped o) e → Err y ≡ ok_or (option_map capped_both (both o p)) e
+  line_left None p y f = let x : y ≡ e = cc in ap Err x
+  line_left (Some s) p y f = clash cc
+
   pub line_right : (o : Option ℕ) (p : Option ℤ) (y : SheetFault) → Err y ≡ ok_or (option_map capped_integer p) e → Err y ≡ ok_or (option_map capped_both (both o p)) e
   line_right o (Some h) y f = clash cc
   line_right None None y f = let x : y ≡ e = cc in ap Err x
@@ -87,6 +100,9 @@ module _ (l s r : List ℕ) (n : ℕ) (e : cut 44 l ≡ s ∷ cut 44 r) where
 
   pub value_ok : (a : ℕ) (b : ℤ) → Ok a ≡ ok_or (option_map capped (natural s)) (Malformed n) → Ok b ≡ ok_or (option_map capped_integer (integer r)) (Malformed n) → Ok (a, b) ≡ Line l n
   value_ok a b x y = line_ok (Malformed n) (natural s) (integer r) a b x y ∙ is_line
+
+  pub value_left : (y : SheetFault) → Err y ≡ ok_or (option_map capped (natural s)) (Malformed n) → Err y ≡ Line l n
+  value_left y x = line_left (Malformed n) (natural s) (integer r) y x ∙ is_line
 
   pub value_right : (y : SheetFault) → Err y ≡ ok_or (option_map capped_integer (integer r)) (Malformed n) → Err y ≡ Line l n
   value_right y x = line_right (Malformed n) (natural s) (integer r) y x ∙ is_line

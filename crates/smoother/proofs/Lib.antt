@@ -1,4 +1,5 @@
 -- The lemmas of this crate.
+mod Behind
 mod Dots
 mod Piling
 mod Places

@@ -1,6 +1,6 @@
 -- The limits of a pile, and the laws of what keeps them.
-use Rattle.std.specs.Prelude.{◌≡◌, ℕ, ◌+◌, ◌-◌, ◌*◌, ◌/◌, ◌^◌, ◌<◌, ◌≤◌, true, ◌&&◌, leb, ◌⊎◌, List, [], ◌∷◌, length, ℤ, pos, ◌*ℤ◌}
-use Rattle.std.proofs.Common.{sym, subst, ◌∙◌, inl, inr, le-div_iff_mul-le, div-lt_iff_lt-mul, le_refl, mul-le-mul_left, arith}
+use Rattle.std.specs.Prelude.{◌≡◌, ℕ, ◌+◌, ◌-◌, ◌*◌, ◌/◌, ◌^◌, ◌<◌, ◌≤◌, true, ◌&&◌, nat_le, leb, ◌⊎◌, List, [], ◌∷◌, length, ℤ, pos, ◌*ℤ◌}
+use Rattle.std.proofs.Common.{sym, ap, subst, ◌∙◌, inl, inr, le-div_iff_mul-le, div-lt_iff_lt-mul, le_refl, mul-le-mul_left, arith}
 use Rattle.std.proofs.lemmas.Int.{ints}
 use Rattle.std.proofs.Math.IntN.{+ℤ_idr}
 use Rattle.std.proofs.lemmas.Bool.{le-leb, lt-leb, leb-true, cases_lt, cond_both, and_parts}
@@ -30,6 +30,10 @@ quotient_test a b n one = by (cases_lt (n / b) a)
     by : (n / b < a) ⊎ (a ≤ n / b) → leb a (n / b) ≡ leb (a * b) n
     by (inl h) = lt-leb _ _ h ∙ sym (lt-leb _ _ ((div-lt_iff_lt-mul one).0 h))
     by (inr h) = le-leb _ _ h ∙ sym (le-leb _ _ ((le-div_iff_mul-le one).0 h))
+
+pub scales_test : (p q : List ℕ) (a b : ℕ) → a ≡ scale p → b ≡ scale q → 1 ≤ scale q → nat_le a (2 ^ 40 / b) ≡ scales_fit p q
+scales_test p q a b e f one =
+    ap (λ n. leb n (2 ^ 40 / b)) e ∙ ap (λ n. leb (scale p) (2 ^ 40 / n)) f ∙ quotient_test (scale p) (scale q) (2 ^ 40) one
 
 scales_within : (p q : List ℕ) → scales_fit p q ≡ true → scale p * scale q ≤ 2 ^ 40
 scales_within p q e = leb-true (scale p * scale q) (2 ^ 40) e

@@ -95,6 +95,9 @@ row_diminishing (suc m) =
 
 -- ---- one pair more
 module _ (ps ts : List ℕ) (m : ℕ) (e : ps ≡ 1 ∷ 1 ∷ []) (f : ts ≡ row m) where
+  pub next_some : (1 ≤ length ps) × (1 ≤ length ts)
+  next_some = omega (arith, ap length e, ap length f, row_length m)
+
   pub next_short : m < 40 → length ps + length ts ≤ 50
   next_short l = omega (arith, ap length e, ap length f, row_length m)
 
