@@ -1,8 +1,7 @@
 -- What a list ends as, where one of its items is lent.
-use Rattle.std.specs.Prelude.{ℕ, ◌≡◌, slice_set, length}
+use Rattle.std.specs.Prelude.{ℕ, slice_set}
 use Rattle.std.specs.Borrow.{Lends, Fml, RattleType, MutBor}
 use Rattle.std.proofs.lemmas.List.{length-set}
-use Rattle.fixed_list.specs.declared.FixedList.{FixedList}
 use Rattle.fixed_list.specs.contracts.FixedList.{the_row}
 
 module _ (T N : RattleType) (v : MutBor (the_row T N).Denot) where

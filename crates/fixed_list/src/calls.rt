@@ -1,6 +1,6 @@
 //! The calls that make a list and edit it. Where one needs room or an item, it requires so, as an index of a slice does: the
 //! caller knows, or tests first.
-ghost use Rattle.std.specs.Prelude.{◌≡◌, ◌+◌, ◌<◌, ◌≤◌, [], ◌∷◌, ◌++◌, length, insert, remove, slice_set, slice_index_or};
+ghost use Rattle.std.specs.Prelude.{◌≡◌, ◌+◌, ◌<◌, ◌≤◌, [], ◌∷◌, ◌++◌, length, insert, remove, slice_index_or};
 ghost use Rattle.std.specs.Borrow.{sem};
 ghost use Rattle.fixed_list.specs.Listed.{listed};
 
@@ -17,14 +17,6 @@ impl<T: Copy, const N: usize> FixedList<T, N> {
             items: [blank; N],
             len: 0,
         }
-    }
-
-    /// Puts an item in the place of another.
-    pub fn set(&mut self, place: usize, item: T)
-        requires { place < length (listed self.old) }
-        ensures { listed self.new ≡ slice_set (listed self.old) place item }
-    {
-        self.items[place] = item;
     }
 
     /// Lends an item, for writing.
@@ -53,7 +45,7 @@ impl<T: Copy, const N: usize> FixedList<T, N> {
     {
         self.items.copy_within(place..self.len, place + 1);
         self.len += 1;
-        self.set(place, item);
+        self.items[place] = item;
     }
 
     /// Takes out the item at a place, and moves the later ones down.
