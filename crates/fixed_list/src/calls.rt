@@ -63,6 +63,7 @@ impl<T: Copy, const N: usize> FixedList<T, N> {
         ensures { listed self.new ≡ listed self.old ++ more.now }
     {
         let end = self.len + more.len();
+        // A part of the array itself, whose length is a const parameter, cannot be lent yet.
         let room = &mut self.items[..];
         room[self.len..end].copy_from_slice(more);
         self.len = end;

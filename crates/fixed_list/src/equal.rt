@@ -6,6 +6,7 @@ ghost use Rattle.fixed_list.specs.Listed.{listed};
 
 use crate::FixedList;
 
+// A derived one would compare what only fills the room, too.
 impl<T: PartialEq + Copy, const N: usize> PartialEq for FixedList<T, N> {
     ghost eq = { on listed (pointwise T.eq) };
 

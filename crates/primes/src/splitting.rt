@@ -8,6 +8,7 @@ use scale_space::passes::Pass;
 use schedule::reduction::gcd;
 
 /// The pair of two weights in lowest terms.
+// The same stands in schedule, and is private there: it asks for weights that are not all 0, as no public call may.
 #[tactic(auto, using(scale_space::proofs::Divisors::common_some), unfolding(scale_space::specs::Taps::scale))]
 fn reduced_pair(a: u32, b: u32) -> Pass
     requires { 0 < a + b }

@@ -4,9 +4,13 @@
 
 ghost use Rattle.std.specs.Prelude.{◌≤◌, length, IfOk};
 
-use command::answering::answer;
+use command::answering::{MOST_OUTPUT, answer};
+use sheets::limits::MOST_BYTES;
 use std::io;
 use std::io::Read;
+
+/// One byte more than an input may have, so that a longer one is seen to be too long.
+const MOST_INPUT: usize = MOST_BYTES + 1;
 
 /// Reads until the input ends or the buffer is full, so that an endless input comes to an end too.
 fn read_all(rt: &impl Input, buffer: &mut [u8]) -> io::Result<usize>
@@ -37,13 +41,12 @@ fn run(rt: &(impl Input + Print), input: &mut [u8], out: &mut [u8]) -> io::Resul
 }
 
 /// Room for the longest answer.
-fn blank() -> [u8; 1_178_200] {
-    [0; 1_178_200]
+fn blank() -> [u8; MOST_OUTPUT] {
+    [0; MOST_OUTPUT]
 }
 
 fn main(rt: HostRuntime) -> io::Result<()> {
-    // One byte more than may be read, so that a longer input is seen to be too long.
-    let mut input = [0; 32_769];
+    let mut input = [0; MOST_INPUT];
     let mut out = blank();
     run(&rt, &mut input, &mut out)
 }

@@ -33,6 +33,7 @@ fn fill<F: Finder>(mut finder: F, samples: &[i64], table: &mut [F::Found]) -> us
     ensures few { result ≤ length samples.now }
     ensures places { result ≤ length table.old → table.new ≡ F.finds finder 0 samples.now ++ drop result table.old }
 {
+    // Counted by hand: records past the room count too.
     let mut found = 0;
     for (i, sample) in samples.iter().enumerate() {
         if let Some(record) = finder.read(i, *sample) {

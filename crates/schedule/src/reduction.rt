@@ -31,7 +31,7 @@ pub fn gcd3(a: u32, b: u32, c: u32) -> u32
     gcd(a, gcd(b, c))
 }
 
-// Here and below each kind names its weights: a list of them would first have to be made, and the pass then made of it again.
+// Here and below each kind names its weights: as one list they would first have to be gathered, and to be reduced be put back.
 
 /// The sum of a pass's weights.
 #[tactic(auto, unfolding(scale_space::specs::Taps::scale))]

@@ -1,5 +1,5 @@
 -- The lemmas of this crate.
-mod Behind
+pub mod Behind
 mod Dots
 mod Piling
 mod Places

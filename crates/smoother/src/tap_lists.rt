@@ -8,6 +8,7 @@ use fixed_list::FixedList;
 pub mod building;
 
 /// One tap or more, and a sum that no smoother passes.
+// That the sum is not 0 is no invariant, since `two(0, 0)` may be made: who needs it says so.
 #[derive(Clone, Copy)]
 pub struct TapList {
     taps: FixedList<u64, 49>,
