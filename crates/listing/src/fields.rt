@@ -6,6 +6,7 @@ ghost use Rattle.listing.specs.Putting.{Roomy, Put};
 
 use itoa::write_digits;
 
+// A size with no text made, here and below: to format a number only to count its bytes would do its digits twice.
 /// How many digits `n` has.
 pub fn width(n: u64) -> usize
     ensures size { result ≡ length (decimal n) }

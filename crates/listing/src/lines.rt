@@ -1,14 +1,13 @@
 //! The lines of a level's turns.
 ghost use Rattle.std.specs.Prelude.{◌≡◌, ◌*◌, ◌≤◌, true, ◌++◌, map, length, Ok, codes, unsigned_abs};
 ghost use Rattle.std.specs.List.{flat_map, AllByRecursion};
-ghost use Rattle.samples.specs.Answers.{scale_lawful, heights_fit};
+ghost use Rattle.samples.specs.Answers.{scale_lawful};
 ghost use Rattle.sheets.specs.Lines.{answer};
-ghost use Rattle.listing.specs.Listing.{kind_word, turn_line, names, listing, height_line, turn_rounded};
+ghost use Rattle.listing.specs.Listing.{kind_word, names, height_line, turn_rounded};
 ghost use Rattle.listing.specs.Putting.{Roomy, Put};
 
 use crate::fields::{Pen, signed_width, width};
 use samples::rounding::round_one;
-use samples::turns::find;
 use scale_space::turns::{Turn, TurnKind};
 use sheets::faults::SheetFault;
 

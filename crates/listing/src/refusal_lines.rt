@@ -19,6 +19,7 @@ pub enum Rejection {
 }
 
 impl Rejection {
+    // By hand, here and in the two below: the cases carry other errors, so no discriminant and no derive gives the answer.
     /// The number by which the refusal is known outside.
     pub fn number(self) -> u8
         ensures { result ≡ rejection_number self }
