@@ -2,10 +2,11 @@
 //! number takes.
 ghost use Rattle.std.specs.Prelude.{◌≡◌, ◌≤◌, length, decimal};
 ghost use Rattle.std.specs.Fmt.{signed_decimal};
-ghost use Rattle.listing.specs.Putting.{Roomy, Put};
+ghost use Rattle.listing.specs.Putting.{RoomFor, Penned};
 
 use itoa::write_digits;
 
+// A size with no text made, here and below: to format a number only to count its bytes would do its digits twice.
 /// How many digits `n` has.
 pub fn width(n: u64) -> usize
     ensures size { result ≡ length (decimal n) }
@@ -40,9 +41,8 @@ impl<'a> Pen<'a> {
     }
 
     pub fn word(&mut self, word: &[u8])
-        requires { Roomy word.now self.old.at self.old.out.now }
-        ensures same_reference { self.new.out.ghost_name ≡ self.old.out.ghost_name }
-        ensures put { Put word.now self.old.at self.old.out.now self.new.at self.new.out.now }
+        requires { RoomFor word.now self.old }
+        ensures { Penned word.now self.old self.new }
     {
         let first = self.at - word.len();
         self.out[first..self.at].copy_from_slice(word);
@@ -50,18 +50,16 @@ impl<'a> Pen<'a> {
     }
 
     pub fn number(&mut self, n: u64)
-        requires { Roomy (decimal n) self.old.at self.old.out.now }
-        ensures same_reference { self.new.out.ghost_name ≡ self.old.out.ghost_name }
-        ensures put { Put (decimal n) self.old.at self.old.out.now self.new.at self.new.out.now }
+        requires { RoomFor (decimal n) self.old }
+        ensures { Penned (decimal n) self.old self.new }
     {
         self.at = write_digits(n, self.out, self.at);
     }
 
     /// The same with a number that may be below 0.
     pub fn signed(&mut self, n: i64)
-        requires { Roomy (signed_decimal n) self.old.at self.old.out.now }
-        ensures same_reference { self.new.out.ghost_name ≡ self.old.out.ghost_name }
-        ensures put { Put (signed_decimal n) self.old.at self.old.out.now self.new.at self.new.out.now }
+        requires { RoomFor (signed_decimal n) self.old }
+        ensures { Penned (signed_decimal n) self.old self.new }
     {
         self.number(n.unsigned_abs());
         if n < 0 {

@@ -1,14 +1,13 @@
 //! The lines of a level's turns.
 ghost use Rattle.std.specs.Prelude.{◌≡◌, ◌*◌, ◌≤◌, true, ◌++◌, map, length, Ok, codes, unsigned_abs};
 ghost use Rattle.std.specs.List.{flat_map, AllByRecursion};
-ghost use Rattle.samples.specs.Answers.{scale_lawful, heights_fit};
+ghost use Rattle.samples.specs.Answers.{scale_lawful};
 ghost use Rattle.sheets.specs.Lines.{answer};
-ghost use Rattle.listing.specs.Listing.{kind_word, turn_line, names, listing, height_line, turn_rounded};
-ghost use Rattle.listing.specs.Putting.{Roomy, Put};
+ghost use Rattle.listing.specs.Listing.{kind_word, names, height_line, turn_rounded};
+ghost use Rattle.listing.specs.Putting.{RoomFor, Penned};
 
 use crate::fields::{Pen, signed_width, width};
 use samples::rounding::round_one;
-use samples::turns::find;
 use scale_space::turns::{Turn, TurnKind};
 use sheets::faults::SheetFault;
 
@@ -34,9 +33,8 @@ fn line_size(level: usize, turn: Turn) -> usize
 
 /// Puts the line of a turn, whose numerator is its height.
 fn put_line(level: usize, turn: Turn, pen: &mut Pen)
-    requires { Roomy (height_line level turn) pen.old.at pen.old.out.now }
-    ensures same_reference { pen.new.out.ghost_name ≡ pen.old.out.ghost_name }
-    ensures put { Put (height_line level turn) pen.old.at pen.old.out.now pen.new.at pen.new.out.now }
+    requires { RoomFor (height_line level turn) pen.old }
+    ensures { Penned (height_line level turn) pen.old pen.new }
 {
     pen.word(b"\n");
     pen.signed(turn.numerator);
@@ -62,9 +60,8 @@ fn lines_size(level: usize, turns: &[Turn]) -> usize
 
 /// Puts the lines of these turns, whose numerators are their heights. The last line is put first.
 fn put_lines(level: usize, turns: &[Turn], pen: &mut Pen)
-    requires { Roomy (flat_map (height_line level) turns.now) pen.old.at pen.old.out.now }
-    ensures same_reference { pen.new.out.ghost_name ≡ pen.old.out.ghost_name }
-    ensures put { Put (flat_map (height_line level) turns.now) pen.old.at pen.old.out.now pen.new.at pen.new.out.now }
+    requires { RoomFor (flat_map (height_line level) turns.now) pen.old }
+    ensures { Penned (flat_map (height_line level) turns.now) pen.old pen.new }
 {
     for turn in turns.iter().rev() {
         put_line(level, *turn, pen);

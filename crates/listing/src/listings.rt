@@ -10,6 +10,7 @@ ghost use Rattle.listing.specs.Listings.{listing_number, level_text, listed};
 
 use crate::lines::{round_turns, write_heights};
 use levels::walks::Walk;
+use samples::limits::MOST_HEIGHTS;
 use samples::refusals::Refusal;
 use samples::turns::find;
 use scale_space::turns::{Turn, TurnKind};
@@ -25,6 +26,7 @@ pub enum ListingFault {
 }
 
 impl ListingFault {
+    // By hand: a case carries another error, so no discriminant gives this number.
     /// The number by which the fault is known outside.
     pub fn number(self) -> u8
         ensures { result ≡ listing_number self }
@@ -54,7 +56,7 @@ pub fn list(walk: &Walk, out: &mut [u8]) -> Result<usize, SheetFault>
         kind: TurnKind::Ridge,
         place: 0,
         numerator: 0,
-    }; 2048];
+    }; MOST_HEIGHTS];
     let Ok(count) = find(walk.numerators(), &mut table) else {
         return unreachable();
     };

@@ -1,7 +1,7 @@
 //! The line that tells why nothing was listed.
 ghost use Rattle.std.specs.Prelude.{◌≡◌, ◌≤◌, length, Ok};
 ghost use Rattle.sheets.specs.Lines.{answer};
-ghost use Rattle.listing.specs.Putting.{Roomy, Put};
+ghost use Rattle.listing.specs.Putting.{RoomFor, Penned};
 ghost use Rattle.listing.specs.Rejections.{rejection_word, rejection_number, rejected_at, told, rejection_line};
 
 use crate::fields::{Pen, width};
@@ -19,6 +19,7 @@ pub enum Rejection {
 }
 
 impl Rejection {
+    // By hand, here and in the two below: the cases carry other errors, so no discriminant and no derive gives the answer.
     /// The number by which the refusal is known outside.
     pub fn number(self) -> u8
         ensures { result ≡ rejection_number self }
@@ -58,9 +59,8 @@ impl Rejection {
 
 /// Puts the line of a word and two numbers.
 fn put_told(word: &[u8], number: u8, line: usize, pen: &mut Pen)
-    requires { Roomy (told word.now number line) pen.old.at pen.old.out.now }
-    ensures same_reference { pen.new.out.ghost_name ≡ pen.old.out.ghost_name }
-    ensures put { Put (told word.now number line) pen.old.at pen.old.out.now pen.new.at pen.new.out.now }
+    requires { RoomFor (told word.now number line) pen.old }
+    ensures { Penned (told word.now number line) pen.old pen.new }
 {
     pen.word(b"\n");
     pen.number(line as u64);

@@ -15,7 +15,10 @@ number-requires-2 c =
     let f : SFits w64 c.args.turn.numerator = search rules in
     room_sixth (line_room c.args.level c.args.turn c.requires) c.word.ensures.put (simp to_z-of_z at c.signed.ensures.put) (rw c.word-2.ensures.bytes at c.word-3.ensures.put) c.number.ensures.put c.word-4.ensures.put
 
-pub returns-clause-put : goal.returns-clause-put
-returns-clause-put c =
+pub returns : goal.returns
+returns c =
     let f : SFits w64 c.args.turn.numerator = search rules in
-    line_put c.args.level c.args.turn (put_six (line_room c.args.level c.args.turn c.requires) c.word.ensures.put (simp to_z-of_z at c.signed.ensures.put) (rw c.word-2.ensures.bytes at c.word-3.ensures.put) c.number.ensures.put c.word-4.ensures.put c.number-2.ensures.put)
+    record {
+      same_reference = search rules;
+      put = line_put c.args.level c.args.turn (put_six (line_room c.args.level c.args.turn c.requires) c.word.ensures.put (simp to_z-of_z at c.signed.ensures.put) (rw c.word-2.ensures.bytes at c.word-3.ensures.put) c.number.ensures.put c.word-4.ensures.put c.number-2.ensures.put);
+    }
