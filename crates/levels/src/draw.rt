@@ -1,5 +1,5 @@
 //! The drawing of a level.
-ghost use Rattle.std.specs.Prelude.{◌≡◌, ◌+◌, ◌-◌, ◌*◌, ◌^◌, ◌<◌, ◌≤◌, true, List, [], ◌∷◌, ◌++◌, length, take, drop, ℤ, pos, ◌+ℤ◌, ◌*ℤ◌, unsigned_abs};
+ghost use Rattle.std.specs.Prelude.{◌≡◌, ◌+◌, ◌-◌, ◌*◌, ◌^◌, ◌<◌, ◌≤◌, true, List, ◌++◌, length, take, drop, ℤ};
 ghost use Rattle.std.specs.List.{AllByRecursion};
 ghost use Rattle.scale_space.specs.Taps.{dot, windows, scale};
 ghost use Rattle.scale_space.specs.Passes.{weights, Proper, reach, product, level};
@@ -74,6 +74,8 @@ pub(crate) fn begin(profile: &[i64], work: &mut [i64])
 }
 
 /// Weights laid on as many samples. The sums fit, since every sample is light.
+// Apart from the dot product of 64-bit taps in smoother: weights kept narrow are widened in the loop, which vectors do faster.
+// A loop: over a chain, a sum of signed products leaves its bound open.
 fn weigh(weights: &[u32], samples: &[i64]) -> i64
     requires long { length weights.now ≡ length samples.now }
     requires heavy { 1 ≤ scale weights.now }
