@@ -89,21 +89,20 @@ fn weigh(weights: &[u32], samples: &[i64]) -> i64
     total
 }
 
-/// Lays weights on the first `count` samples, in place: a place is written once it has been read for the last time.
-fn lay_weights<const N: usize>(weights: [u32; N], work: &mut [i64], count: usize)
+/// Lays weights on a level, in place: a place is written once it has been read for the last time.
+fn lay_weights<const N: usize>(weights: [u32; N], level: &mut [i64])
     requires some { 1 ≤ N }
-    requires long { N ≤ count }
-    requires room { count ≤ length work.old }
+    requires long { N ≤ length level.old }
     requires heavy { 1 ≤ scale weights }
-    requires light { Light (scale weights) (take count work.old) }
-    ensures { work.new ≡ laid count (windows weights.entry (take count work.old)) work.old }
+    requires light { Light (scale weights) level.old }
+    ensures { level.new ≡ laid (length level.old) (windows weights.entry level.old) level.old }
 {
-    let left = count - N + 1;
+    let left = level.len() - N + 1;
     // By index: in place, each window reads ahead of the place that is written, and no iterator lends both.
     for i in 0..left {
-        work[i] = weigh(&weights, &work[i..i + N]);
+        level[i] = weigh(&weights, &level[i..i + N]);
     }
-    work[left..count].fill(0);
+    level[left..].fill(0);
 }
 
 /// Lays a pass on the level that `work` holds, and answers the shape of the next one.
@@ -117,9 +116,10 @@ pub(crate) fn lay(pass: Pass, last: Drawn, work: &mut [i64]) -> Drawn
     ensures larger { result.scale ≡ last.scale * scale (weights pass) }
     ensures places { work.new ≡ laid last.length (windows (weights pass) (take last.length work.old)) work.old }
 {
+    let level = &mut work[..last.length];
     match pass {
-        Pass::Pair(a, b) => lay_weights([a, b], work, last.length),
-        Pass::Triple(a, b, c) => lay_weights([a, b, c], work, last.length),
+        Pass::Pair(a, b) => lay_weights([a, b], level),
+        Pass::Triple(a, b, c) => lay_weights([a, b, c], level),
     }
     Drawn {
         length: last.length - fewer_by(pass),
