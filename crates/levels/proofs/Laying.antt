@@ -2,7 +2,7 @@
 use Rattle.std.proofs.Common.{◌≡◌, ℕ, zero, suc, ◌+◌, ◌-◌, ◌*◌, ◌^◌, ◌<◌, ◌≤◌, List, [], ◌∷◌, ◌++◌, length, get_or, take, drop, set, replicate, ℤ, pos, ◌+ℤ◌, ◌*ℤ◌, nat_abs, sym, refl, ap, ◌∙◌, subst, ap₂, arith}
 use borrow.Rule.Slice.PartMut.{put_mid}
 use Rattle.std.proofs.ByRecursion.{All-take, All-drop}
-use Rattle.std.proofs.lemmas.List.{append_assoc, drop_all, length-drop, length-take-le, take_all, take_at, drop_at, replicate-append-replicate, take-append-drop}
+use Rattle.std.proofs.lemmas.List.{append_assoc, append-nil, drop_all, length-drop, length-take-le, take_all, take_at, drop_at, replicate-append-replicate}
 use Rattle.scale_space.specs.Taps.{dot, windows}
 use Rattle.scale_space.proofs.Windows.{windows_cons, windows_length}
 use Rattle.levels.specs.Drawing.{laid, Light}
@@ -69,10 +69,11 @@ module _ (ts : List ℕ) (old : List ℤ) (n : ℕ) (len : length ts ≡ n) (som
       (λ j. front j ++ (zero j ++ rest j))
 
 -- ---- from one laying to the next
-pub laid_none : (n : ℕ) (old : List ℤ) → n ≤ length old → old ≡ laid n (take n old) old
-laid_none n old h =
-    let none : 0 ≡ n - length (take n old) = omega (arith, length-take-le n old h) in
-    sym (take-append-drop n old) ∙ ap (λ m. take n old ++ (replicate m (pos 0) ++ drop n old)) none
+pub laid_none : (old : List ℤ) → old ≡ laid (length old) old old
+laid_none old =
+    let none : 0 ≡ length old - length old = omega arith in
+    let rest : [] ≡ drop (length old) old = sym (drop_all (length old) old (omega arith)) in
+    sym (append-nil old) ∙ (λ j. old ++ (replicate (none j) (pos 0) ++ rest j))
 
 pub take_laid : (n : ℕ) (xs old : List ℤ) → take (length xs) (laid n xs old) ≡ xs
 take_laid n xs old = take_at xs (replicate (n - length xs) (pos 0) ++ drop n old) (length xs) refl
@@ -86,6 +87,8 @@ laid_laid n xs ws old h k =
     ∙ ap (λ l. ws ++ l) (sym (append_assoc (replicate m (pos 0)) (replicate r (pos 0)) (drop n old)) ∙ ap (λ l. l ++ drop n old) (replicate-append-replicate m r (pos 0)))
     ∙ ap (λ j. ws ++ (replicate j (pos 0) ++ drop n old)) sum
 
--- only what lies from n on is kept of the old buffer
-pub laid_over : (n : ℕ) (xs old new : List ℤ) → drop n new ≡ drop n old → laid n xs new ≡ laid n xs old
-laid_over n xs old new e = ap (λ l. xs ++ (replicate (n - length xs) (pos 0) ++ l)) e
+-- what follows the places is kept
+pub laid_before : (ws old rest : List ℤ) → laid (length old) ws old ++ rest ≡ ws ++ (replicate (length old - length ws) (pos 0) ++ rest)
+laid_before ws old rest =
+    let zeros = replicate (length old - length ws) (pos 0) in
+    ap (λ l. (ws ++ (zeros ++ l)) ++ rest) (drop_all (length old) old (omega arith)) ∙ append_assoc ws (zeros ++ []) rest ∙ ap (λ l. ws ++ l) (append_assoc zeros [] rest)

@@ -127,18 +127,17 @@ pub(crate) fn lay(pass: Pass, last: Drawn, work: &mut [i64]) -> Drawn
     }
 }
 
-/// Lays all the passes on the n heights that `work` begins with.
-fn lay_all(passes: &[Pass], work: &mut [i64], n: usize) -> Drawn
+/// Lays all the passes on the heights that `work` holds.
+fn lay_all(passes: &[Pass], work: &mut [i64]) -> Drawn
     requires proper { AllByRecursion Proper passes.now }
     requires bounded { product passes.now ≤ 2 ^ 40 }
-    requires room { n ≤ length work.old }
-    requires long { reach passes.now < n }
-    requires lawful { heights_lawful (take n work.old) ≡ true }
-    ensures answer { result ≡ shape (level passes.now (take n work.old)) }
-    ensures places { work.new ≡ laid n (level passes.now (take n work.old)).numerators work.old }
+    requires long { reach passes.now < length work.old }
+    requires lawful { heights_lawful work.old ≡ true }
+    ensures answer { result ≡ shape (level passes.now work.old) }
+    ensures places { work.new ≡ laid (length work.old) (level passes.now work.old).numerators work.old }
 {
     let mut last = Drawn {
-        length: n,
+        length: work.len(),
         scale: 1,
     };
     for pass in passes {
@@ -163,5 +162,5 @@ pub fn draw(
 {
     check(schedule, k, profile, work.len())?;
     begin(profile, work);
-    Ok(lay_all(&schedule.as_slice()[0..k], work, profile.len()))
+    Ok(lay_all(&schedule.as_slice()[0..k], &mut work[..profile.len()]))
 }
