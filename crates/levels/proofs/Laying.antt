@@ -2,7 +2,7 @@
 use Rattle.std.proofs.Common.{◌≡◌, ℕ, zero, suc, ◌+◌, ◌-◌, ◌*◌, ◌^◌, ◌<◌, ◌≤◌, List, [], ◌∷◌, ◌++◌, length, get_or, take, drop, set, replicate, ℤ, pos, ◌+ℤ◌, ◌*ℤ◌, nat_abs, sym, refl, ap, ◌∙◌, subst, ap₂, arith}
 use borrow.Rule.Slice.PartMut.{put_mid}
 use Rattle.std.proofs.ByRecursion.{All-take, All-drop}
-use Rattle.std.proofs.lemmas.List.{append_assoc, length-take-le, take_all, take_at, take-take, drop_at, drop-take, drop-drop, replicate-append-replicate, take-append-drop}
+use Rattle.std.proofs.lemmas.List.{append_assoc, append-nil, drop_all, length-drop, length-take-le, take_all, take_at, drop_at, replicate-append-replicate}
 use Rattle.scale_space.specs.Taps.{dot, windows}
 use Rattle.scale_space.proofs.Windows.{windows_cons, windows_length}
 use Rattle.levels.specs.Drawing.{laid, Light}
@@ -35,48 +35,45 @@ dot_take [] xs = refl
 dot_take (t ∷ ts) [] = refl
 dot_take (t ∷ ts) (x ∷ xs) = ap (λ z. pos t *ℤ x +ℤ z) (dot_take ts xs)
 
--- n weights laid on the first `count` samples
-module _ (ts : List ℕ) (old : List ℤ) (n count : ℕ) (len : length ts ≡ n) (some : 1 ≤ n) (long : n ≤ count) (room : count ≤ length old) where
+-- n weights laid on a level
+module _ (ts : List ℕ) (old : List ℤ) (n : ℕ) (len : length ts ≡ n) (some : 1 ≤ n) (long : n ≤ length old) where
   abbrev pub laying : List ℤ
-  laying = windows ts (take count old)
+  laying = windows ts old
 
-  laying_length : length laying ≡ count - n + 1
-  laying_length = omega (arith, windows_count ts (take count old) (omega arith), length-take-le count old room)
+  laying_length : length laying ≡ length old - n + 1
+  laying_length = omega (arith, windows_count ts old (omega arith))
 
   -- what window i reads is old
-  read_is : (work : List ℤ) (i m : ℕ) → i < count - n + 1 → m ≡ n → work ≡ partly laying i old → take m (drop i work) ≡ take n (drop i (take count old))
+  read_is : (work : List ℤ) (i m : ℕ) → i < length old - n + 1 → m ≡ n → work ≡ partly laying i old → take m (drop i work) ≡ take n (drop i old)
   read_is work i m h e f =
       let front : length (take i laying) ≡ i = length-take-le i laying (omega (arith, laying_length)) in
-      let whole : count ≡ i + (count - i) = omega arith in
       ap₂ take e (ap (drop i) f ∙ drop_at (take i laying) (drop i old) i front)
-      ∙ sym (ap (λ j. take n (drop i (take j old))) whole ∙ ap (take n) (drop-take i (count - i) old) ∙ take-take n (count - i) (drop i old) (omega arith))
 
-  pub read_light : (s : ℕ) (work : List ℤ) (i m : ℕ) → Light s (take count old) → i < count - n + 1 → m ≡ n → work ≡ partly laying i old → Light s (take m (drop i work))
+  pub read_light : (s : ℕ) (work : List ℤ) (i m : ℕ) → Light s old → i < length old - n + 1 → m ≡ n → work ≡ partly laying i old → Light s (take m (drop i work))
   read_light s work i m light h e f = subst (Light s) (sym (read_is work i m h e f)) (All-take (λ x. s * nat_abs x ≤ 2 ^ 60) n _ (All-drop (λ x. s * nat_abs x ≤ 2 ^ 60) i _ light))
 
-  pub written_more : (work : List ℤ) (i m : ℕ) (v : ℤ) → i < count - n + 1 → m ≡ n → work ≡ partly laying i old → v ≡ dot ts (take m (drop i work)) → set work i v ≡ partly laying (i + 1) old
+  pub written_more : (work : List ℤ) (i m : ℕ) (v : ℤ) → i < length old - n + 1 → m ≡ n → work ≡ partly laying i old → v ≡ dot ts (take m (drop i work)) → set work i v ≡ partly laying (i + 1) old
   written_more work i m v h e f d =
-      let xs = take count old in
-      let is : v ≡ get_or laying i (pos 0) = d ∙ ap (dot ts) (read_is work i m h e f) ∙ ap (λ k. dot ts (take k (drop i xs))) (sym len) ∙ dot_take ts (drop i xs) ∙ sym (window_at ts xs i (omega arith) (omega (arith, length-take-le count old room))) in
+      let is : v ≡ get_or laying i (pos 0) = d ∙ ap (dot ts) (read_is work i m h e f) ∙ ap (λ k. dot ts (take k (drop i old))) (sym len) ∙ dot_take ts (drop i old) ∙ sym (window_at ts old i (omega arith) (omega arith)) in
       ap₂ (λ l z. set l i z) f is ∙ written laying old i (omega (arith, laying_length)) (omega arith)
 
   -- all windows are written, and the places after them cleared
-  pub cleared : (work zeros : List ℤ) (i : ℕ) → i ≡ count - n + 1 → work ≡ partly laying i old → zeros ≡ replicate (count - (count - n + 1)) (pos 0) → put_mid (count - n + 1) (count - (count - n + 1)) work zeros ≡ laid count laying old
+  pub cleared : (work zeros : List ℤ) (i : ℕ) → i ≡ length old - n + 1 → work ≡ partly laying i old → zeros ≡ replicate (length old - (length old - n + 1)) (pos 0) → put_mid (length old - n + 1) (length work - (length old - n + 1)) work zeros ≡ laid (length old) laying old
   cleared work zeros i e f z =
-      let left = count - n + 1 in
+      let left = length old - n + 1 in
       let size : length laying ≡ left = laying_length in
-      let end : left + (count - left) ≡ count = omega arith in
       let all : work ≡ laying ++ drop left old = f ∙ ap₂ (λ l j. l ++ drop j old) (take_all i laying (omega arith)) e in
-      let rest : drop (count - left) (drop left work) ≡ drop count old = ap (λ l. drop (count - left) (drop left l)) all ∙ ap (drop (count - left)) (drop_at laying (drop left old) left size) ∙ drop-drop (count - left) left old ∙ ap (λ j. drop j old) end in
+      let rest : drop (length work - left) (drop left work) ≡ drop (length old) old = drop_all (length work - left) (drop left work) (simp length-drop (omega arith)) ∙ sym (drop_all (length old) old (omega arith)) in
       let front : take left work ≡ laying = ap (take left) all ∙ take_at laying (drop left old) left size in
-      let zero : zeros ≡ replicate (count - length laying) (pos 0) = z ∙ ap (λ m. replicate (count - m) (pos 0)) (sym size) in
+      let zero : zeros ≡ replicate (length old - length laying) (pos 0) = z ∙ ap (λ m. replicate (length old - m) (pos 0)) (sym size) in
       (λ j. front j ++ (zero j ++ rest j))
 
 -- ---- from one laying to the next
-pub laid_none : (n : ℕ) (old : List ℤ) → n ≤ length old → old ≡ laid n (take n old) old
-laid_none n old h =
-    let none : 0 ≡ n - length (take n old) = omega (arith, length-take-le n old h) in
-    sym (take-append-drop n old) ∙ ap (λ m. take n old ++ (replicate m (pos 0) ++ drop n old)) none
+pub laid_none : (old : List ℤ) → old ≡ laid (length old) old old
+laid_none old =
+    let none : 0 ≡ length old - length old = omega arith in
+    let rest : [] ≡ drop (length old) old = sym (drop_all (length old) old (omega arith)) in
+    sym (append-nil old) ∙ (λ j. old ++ (replicate (none j) (pos 0) ++ rest j))
 
 pub take_laid : (n : ℕ) (xs old : List ℤ) → take (length xs) (laid n xs old) ≡ xs
 take_laid n xs old = take_at xs (replicate (n - length xs) (pos 0) ++ drop n old) (length xs) refl
@@ -90,6 +87,8 @@ laid_laid n xs ws old h k =
     ∙ ap (λ l. ws ++ l) (sym (append_assoc (replicate m (pos 0)) (replicate r (pos 0)) (drop n old)) ∙ ap (λ l. l ++ drop n old) (replicate-append-replicate m r (pos 0)))
     ∙ ap (λ j. ws ++ (replicate j (pos 0) ++ drop n old)) sum
 
--- only what lies from n on is kept of the old buffer
-pub laid_over : (n : ℕ) (xs old new : List ℤ) → drop n new ≡ drop n old → laid n xs new ≡ laid n xs old
-laid_over n xs old new e = ap (λ l. xs ++ (replicate (n - length xs) (pos 0) ++ l)) e
+-- what follows the places is kept
+pub laid_before : (ws old rest : List ℤ) → laid (length old) ws old ++ rest ≡ ws ++ (replicate (length old - length ws) (pos 0) ++ rest)
+laid_before ws old rest =
+    let zeros = replicate (length old - length ws) (pos 0) in
+    ap (λ l. (ws ++ (zeros ++ l)) ++ rest) (drop_all (length old) old (omega arith)) ∙ append_assoc ws (zeros ++ []) rest ∙ ap (λ l. ws ++ l) (append_assoc zeros [] rest)

@@ -2,7 +2,7 @@
 use Rattle.std.proofs.Common.{◌≡◌, ℕ, zero, suc, ◌+◌, ◌-◌, ◌*◌, ◌^◌, ◌<◌, ◌≤◌, true, List, [], ◌∷◌, length, get_or, take, drop, ℤ, pos, negsuc, sym, refl, ap, ◌∙◌, subst, ap₂, mul-le-mul_left, arith}
 use Rattle.std.specs.List.{AllByRecursion, sum_by}
 use Rattle.std.proofs.ByRecursion.{All-drop, All-get_or}
-use Rattle.std.proofs.lemmas.List.{at_drop_more, length-take-le}
+use Rattle.std.proofs.lemmas.List.{at_drop_more}
 use Rattle.std.proofs.lemmas.List.Sums.{fold_more, sum_by-cons}
 use Rattle.scale_space.specs.declared.passes.Pass.{Pass}
 use Rattle.scale_space.specs.declared.passes.Pass.TheVariants.{Pair, Triple}
@@ -53,23 +53,22 @@ pass_count (Pair a b) xs h = omega (arith, windows_length a (b ∷ []) xs)
 pass_count (Triple a b c) xs h = omega (arith, windows_length a (b ∷ c ∷ []) xs)
 
 -- ---- pass i on the level that the first i left
--- the passes ps can all be laid on the first n heights of old
-pub record Ready (ps : List Pass) (n : ℕ) (old : List ℤ) : Type 0 where
+-- the passes ps can all be laid on the heights old
+pub record Ready (ps : List Pass) (old : List ℤ) : Type 0 where
   pub proper : AllByRecursion Proper ps
   pub bounded : product ps ≤ 2 ^ 40
-  pub room : n ≤ length old
-  pub long : reach ps < n
-  pub lawful : heights_lawful (take n old) ≡ true
+  pub long : reach ps < length old
+  pub lawful : heights_lawful old ≡ true
 
-module _ (ps : List Pass) (n : ℕ) (old : List ℤ) (ready : Ready ps n old) (i : ℕ) (inside : i < length ps) where
+module _ (ps : List Pass) (old : List ℤ) (ready : Ready ps old) (i : ℕ) (inside : i < length ps) where
   abbrev p : Pass
   p = pass_at ps i
 
   abbrev here : Level
-  here = level (take i ps) (take n old)
+  here = level (take i ps) old
 
-  count : length here.numerators + reach (take i ps) ≡ n
-  count = level_length (take i ps) (take n old) (omega (arith, ready.long, reach_split i ps, length-take-le n old ready.room)) ∙ length-take-le n old ready.room
+  count : length here.numerators + reach (take i ps) ≡ length old
+  count = level_length (take i ps) old (omega (arith, ready.long, reach_split i ps))
 
   pub step_heavy : 1 ≤ scale (weights p)
   step_heavy = (All-get_or Proper ps i (Pair 0 0) inside ready.proper).some
@@ -77,40 +76,36 @@ module _ (ps : List Pass) (n : ℕ) (old : List ℤ) (ready : Ready ps n old) (i
   pub step_long : length (weights p) ≤ length here.numerators
   step_long = omega (arith, count, ready.long, reach_split i ps, reach_at ps i inside, weights_some p)
 
-  pub step_room : length here.numerators ≤ n
+  pub step_room : length here.numerators ≤ length old
   step_room = omega (arith, count)
 
   pub step_bounded : here.scale * scale (weights p) ≤ 2 ^ 40
   step_bounded =
-      let e : here.scale ≡ product (take i ps) = ap (λ m. m.scale) (level_is (take i ps) (take n old)) in
+      let e : here.scale ≡ product (take i ps) = ap (λ m. m.scale) (level_is (take i ps) old) in
       let whole : product (take i ps) * (scale (weights p) * product (drop (i + 1) ps)) ≡ product ps = ap (λ z. product (take i ps) * z) (sym (product_at ps i inside)) ∙ product_split i ps in
       let part = part_le (product (take i ps)) (scale (weights p)) (product (drop (i + 1) ps)) (product ps) (product_some (drop (i + 1) ps) (All-drop Proper (i + 1) ps ready.proper)) whole in
       omega (arith, ready.bounded, ap (λ z. z * scale (weights p)) e)
 
   light : Light (scale (weights p)) here.numerators
-  light = within_light here (scale (weights p)) step_bounded ((levels_calm ps ready.proper (take n old)).exact i (negsuc 99999) (pos 100000) (lawful_within (take n old) ready.lawful))
+  light = within_light here (scale (weights p)) step_bounded ((levels_calm ps ready.proper old).exact i (negsuc 99999) (pos 100000) (lawful_within old ready.lawful))
 
-  next : level (take (i + 1) ps) (take n old) ≡ weighed (weights p) here
-  next = fold_more (λ m q. weighed (weights q) m) (ground (take n old)) ps i (Pair 0 0) inside
+  next : level (take (i + 1) ps) old ≡ weighed (weights p) here
+  next = fold_more (λ m q. weighed (weights q) m) (ground old) ps i (Pair 0 0) inside
 
-  pub step_shape : (last r : Drawn) → last ≡ shape here → r.length + length (weights p) ≡ last.length + 1 → r.scale ≡ last.scale * scale (weights p) → r ≡ shape (level (take (i + 1) ps) (take n old))
+  pub step_shape : (last r : Drawn) → last ≡ shape here → r.length + length (weights p) ≡ last.length + 1 → r.scale ≡ last.scale * scale (weights p) → r ≡ shape (level (take (i + 1) ps) old)
   step_shape last r e shorter larger =
       let a : r.length ≡ length (windows (weights p) here.numerators) = omega (arith, ap (λ d. d.length) e, pass_count p here.numerators step_long) in
       let b : r.scale ≡ here.scale * scale (weights p) = larger ∙ ap (λ d. d.scale * scale (weights p)) e in
       (λ j. record { length = a j; scale = b j }) ∙ ap shape (sym next)
 
-  pub step_places : (last : Drawn) (work after : List ℤ) → last ≡ shape here → work ≡ laid n here.numerators old → after ≡ laid last.length (windows (weights p) (take last.length work)) work → after ≡ laid n (level (take (i + 1) ps) (take n old)).numerators old
+  pub step_places : (last : Drawn) (work after : List ℤ) → last ≡ shape here → work ≡ laid (length old) here.numerators old → after ≡ laid last.length (windows (weights p) (take last.length work)) work → after ≡ laid (length old) (level (take (i + 1) ps) old).numerators old
   step_places last work after e f g =
       let xs = here.numerators in
       g
       ∙ ap₂ (λ m v. laid m (windows (weights p) (take m v)) v) (ap (λ d. d.length) e) f
-      ∙ ap (λ v. laid (length xs) (windows (weights p) v) (laid n xs old)) (take_laid n xs old)
-      ∙ laid_laid n xs (windows (weights p) xs) old (omega (arith, pass_count p xs step_long, weights_some p)) step_room
-      ∙ ap (λ m. laid n m.numerators old) (sym next)
+      ∙ ap (λ v. laid (length xs) (windows (weights p) v) (laid (length old) xs old)) (take_laid (length old) xs old)
+      ∙ laid_laid (length old) xs (windows (weights p) xs) old (omega (arith, pass_count p xs step_long, weights_some p)) step_room
+      ∙ ap (λ m. laid (length old) m.numerators old) (sym next)
 
-  pub step_light : (last : Drawn) (work : List ℤ) → last ≡ shape here → work ≡ laid n here.numerators old → Light (scale (weights p)) (take last.length work)
-  step_light last work e f = subst (Light (scale (weights p))) (sym (ap₂ (λ d v. take d.length v) e f ∙ take_laid n here.numerators old)) light
-
--- the profile is level 0
-pub first_shape : (n : ℕ) (old : List ℤ) → n ≤ length old → record { length = n; scale = 1 } ≡ shape (ground (take n old))
-first_shape n old h = λ j. record { length = sym (length-take-le n old h) j; scale = 1 }
+  pub step_light : (last : Drawn) (work : List ℤ) → last ≡ shape here → work ≡ laid (length old) here.numerators old → Light (scale (weights p)) (take last.length work)
+  step_light last work e f = subst (Light (scale (weights p))) (sym (ap₂ (λ d v. take d.length v) e f ∙ take_laid (length old) here.numerators old)) light

@@ -1,5 +1,5 @@
 //! The drawing of a level.
-ghost use Rattle.std.specs.Prelude.{◌≡◌, ◌+◌, ◌-◌, ◌*◌, ◌^◌, ◌<◌, ◌≤◌, true, List, [], ◌∷◌, ◌++◌, length, take, drop, ℤ, pos, ◌+ℤ◌, ◌*ℤ◌, unsigned_abs};
+ghost use Rattle.std.specs.Prelude.{◌≡◌, ◌+◌, ◌-◌, ◌*◌, ◌^◌, ◌<◌, ◌≤◌, true, List, ◌++◌, length, take, drop, ℤ};
 ghost use Rattle.std.specs.List.{AllByRecursion};
 ghost use Rattle.scale_space.specs.Taps.{dot, windows, scale};
 ghost use Rattle.scale_space.specs.Passes.{weights, Proper, reach, product, level};
@@ -74,6 +74,8 @@ pub(crate) fn begin(profile: &[i64], work: &mut [i64])
 }
 
 /// Weights laid on as many samples. The sums fit, since every sample is light.
+// Apart from the dot product of 64-bit taps in smoother: weights kept narrow are widened in the loop, which vectors do faster.
+// A loop: over a chain, a sum of signed products leaves its bound open.
 fn weigh(weights: &[u32], samples: &[i64]) -> i64
     requires long { length weights.now ≡ length samples.now }
     requires heavy { 1 ≤ scale weights.now }
@@ -87,21 +89,20 @@ fn weigh(weights: &[u32], samples: &[i64]) -> i64
     total
 }
 
-/// Lays weights on the first `count` samples, in place: a place is written once it has been read for the last time.
-fn lay_weights<const N: usize>(weights: [u32; N], work: &mut [i64], count: usize)
+/// Lays weights on a level, in place: a place is written once it has been read for the last time.
+fn lay_weights<const N: usize>(weights: [u32; N], level: &mut [i64])
     requires some { 1 ≤ N }
-    requires long { N ≤ count }
-    requires room { count ≤ length work.old }
+    requires long { N ≤ length level.old }
     requires heavy { 1 ≤ scale weights }
-    requires light { Light (scale weights) (take count work.old) }
-    ensures { work.new ≡ laid count (windows weights.entry (take count work.old)) work.old }
+    requires light { Light (scale weights) level.old }
+    ensures { level.new ≡ laid (length level.old) (windows weights.entry level.old) level.old }
 {
-    let left = count - N + 1;
+    let left = level.len() - N + 1;
     // By index: in place, each window reads ahead of the place that is written, and no iterator lends both.
     for i in 0..left {
-        work[i] = weigh(&weights, &work[i..i + N]);
+        level[i] = weigh(&weights, &level[i..i + N]);
     }
-    work[left..count].fill(0);
+    level[left..].fill(0);
 }
 
 /// Lays a pass on the level that `work` holds, and answers the shape of the next one.
@@ -115,9 +116,10 @@ pub(crate) fn lay(pass: Pass, last: Drawn, work: &mut [i64]) -> Drawn
     ensures larger { result.scale ≡ last.scale * scale (weights pass) }
     ensures places { work.new ≡ laid last.length (windows (weights pass) (take last.length work.old)) work.old }
 {
+    let level = &mut work[..last.length];
     match pass {
-        Pass::Pair(a, b) => lay_weights([a, b], work, last.length),
-        Pass::Triple(a, b, c) => lay_weights([a, b, c], work, last.length),
+        Pass::Pair(a, b) => lay_weights([a, b], level),
+        Pass::Triple(a, b, c) => lay_weights([a, b, c], level),
     }
     Drawn {
         length: last.length - fewer_by(pass),
@@ -125,18 +127,17 @@ pub(crate) fn lay(pass: Pass, last: Drawn, work: &mut [i64]) -> Drawn
     }
 }
 
-/// Lays all the passes on the n heights that `work` begins with.
-fn lay_all(passes: &[Pass], work: &mut [i64], n: usize) -> Drawn
+/// Lays all the passes on the heights that `work` holds.
+fn lay_all(passes: &[Pass], work: &mut [i64]) -> Drawn
     requires proper { AllByRecursion Proper passes.now }
     requires bounded { product passes.now ≤ 2 ^ 40 }
-    requires room { n ≤ length work.old }
-    requires long { reach passes.now < n }
-    requires lawful { heights_lawful (take n work.old) ≡ true }
-    ensures answer { result ≡ shape (level passes.now (take n work.old)) }
-    ensures places { work.new ≡ laid n (level passes.now (take n work.old)).numerators work.old }
+    requires long { reach passes.now < length work.old }
+    requires lawful { heights_lawful work.old ≡ true }
+    ensures answer { result ≡ shape (level passes.now work.old) }
+    ensures places { work.new ≡ laid (length work.old) (level passes.now work.old).numerators work.old }
 {
     let mut last = Drawn {
-        length: n,
+        length: work.len(),
         scale: 1,
     };
     for pass in passes {
@@ -161,5 +162,5 @@ pub fn draw(
 {
     check(schedule, k, profile, work.len())?;
     begin(profile, work);
-    Ok(lay_all(&schedule.as_slice()[0..k], work, profile.len()))
+    Ok(lay_all(&schedule.as_slice()[0..k], &mut work[..profile.len()]))
 }

@@ -6,6 +6,7 @@ ghost use Rattle.samples.specs.Answers.{heights_fit};
 ghost use Rattle.schedule.specs.Calls.{passes};
 
 use crate::draw::Drawn;
+use samples::limits::MOST_HEIGHTS;
 use schedule::schedules::Schedule;
 
 pub mod reading;
@@ -13,13 +14,13 @@ pub mod steps;
 
 /// It has come to `level`, and may go up to `last`. The level's numerators are the first of the samples, as many as `drawn`
 /// says. For the passes that are still ahead there are samples enough, and the scale has room.
-// A level is laid in place, in a slice that can be written to, and a `FixedList` lends none: the samples stay an array.
+// The samples stay an array: the level's length stands in `drawn`, and an `ArrayVec` would keep it twice.
 #[derive(Drop)]
 pub struct Walk {
     schedule: Schedule,
     last: usize,
     level: usize,
-    samples: [i64; 2048],
+    samples: [i64; MOST_HEIGHTS],
     drawn: Drawn,
     ghost full: { length samples ≡ 2048 },
     ghost short: { drawn.length ≤ 2048 },

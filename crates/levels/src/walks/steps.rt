@@ -6,6 +6,7 @@ ghost use Rattle.levels.specs.Walks.{At, SetOut, Stepped};
 
 use crate::draw::{Drawn, begin, check, lay};
 use crate::walks::Walk;
+use samples::limits::MOST_HEIGHTS;
 use samples::refusals::Refusal;
 use schedule::schedules::Schedule;
 
@@ -17,7 +18,7 @@ impl Walk {
     {
         let length = profile.len();
         check(schedule, last, profile, length)?;
-        let mut samples = [0; 2048];
+        let mut samples = [0; MOST_HEIGHTS];
         begin(profile, &mut samples);
         Ok(Walk {
             schedule: *schedule,

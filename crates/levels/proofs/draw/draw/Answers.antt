@@ -8,7 +8,7 @@ use Rattle.schedule.specs.Standing.{Standing}
 use Rattle.schedule.proofs.Standing.{standing}
 use Rattle.levels.specs.Drawing.{heights_lawful, allowed, drawn, laid}
 use Rattle.levels.proofs.Stepping.{product_first}
-use Rattle.levels.proofs.Checking.{passed, first_is, front_is, front_room, drawn_is, places_are}
+use Rattle.levels.proofs.Checking.{passed, first_is, front_is, drawn_is, places_are}
 use Rattle.levels.proofs.draw.draw.Goals as goal
 
 pub lay_all-requires : goal.lay_all-requires
@@ -28,8 +28,7 @@ lay_all-requires c =
     record {
       proper = subst (AllByRecursion Proper) (sym first) (All-take Proper k ps st.each);
       bounded = omega (arith, ap product first, product_first k ps st.each, st.bounded);
-      room = front_room ps k hs old new same;
-      long = omega (arith, ap reach first, ok.long);
+      long = omega (arith, ap reach first, ap length (front_is ps k hs old new same), ok.long);
       lawful = ap heights_lawful (front_is ps k hs old new same) ∙ ok.lawful;
     }
 

@@ -9,19 +9,19 @@ pub weigh-requires-clause-light : goal.weigh-requires-clause-light
 weigh-requires-clause-light g c =
     let n : length c.args.weights ≡ g.row.N = search rules in
     let r = c.requires in
-    read_light _ _ _ _ n r.some r.long r.room _ c.loop-i.work c.loop-i.i _ r.light c.loop-i-test.true (omega arith) c.loop-i.invariant.1
+    read_light _ _ _ n r.some r.long _ c.loop-i.level c.loop-i.i _ r.light c.loop-i-test.true (omega arith) c.loop-i.invariant.1
 
 pub loop-i-preserved : goal.loop-i-preserved
 loop-i-preserved g c =
     let n : length c.args.weights ≡ g.row.N = search rules in
     let f : SFits w64 c.weigh.result = search rules in
     let r = c.requires in
-    simp (to_z-of_z, length-set) (c.loop-i.invariant.0, written_more _ _ _ _ n r.some r.long r.room c.loop-i.work c.loop-i.i _ c.weigh.result c.loop-i-test.true (omega arith) c.loop-i.invariant.1 c.weigh.ensures)
+    simp (to_z-of_z, length-set) (c.loop-i.invariant.0, written_more _ _ _ n r.some r.long c.loop-i.level c.loop-i.i _ c.weigh.result c.loop-i-test.true (omega arith) c.loop-i.invariant.1 c.weigh.ensures)
 
 pub returns : goal.returns
 returns g c =
     let n : length c.args.weights ≡ g.row.N = search rules in
     let r = c.requires in
-    let left = c.args.count - g.row.N + 1 in
-    let size : length (take (c.args.count - left) (drop left c.loop-i.work)) ≡ c.args.count - left = simp (length-take, length-drop) (omega arith) in
-    cleared _ _ _ _ n r.some r.long r.room c.loop-i.work c.fill.new.self c.loop-i.i (omega arith) c.loop-i.invariant.1 (c.fill.ensures.after (λ y h. h) ∙ ap (λ k. replicate k (pos 0)) size)
+    let left = length c.args.level.now - g.row.N + 1 in
+    let size : length (take (length c.loop-i.level - left) (drop left c.loop-i.level)) ≡ length c.args.level.now - left = simp (length-take, length-drop) (omega (arith, c.loop-i.invariant.0)) in
+    cleared _ _ _ n r.some r.long c.loop-i.level c.fill.new.self c.loop-i.i (omega arith) c.loop-i.invariant.1 (c.fill.ensures.after (λ y h. h) ∙ ap (λ k. replicate k (pos 0)) size)
