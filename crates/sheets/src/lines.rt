@@ -59,7 +59,8 @@ pub fn walk<R: ReadsLines>(text: &[u8], into: &mut R) -> Result<(), SheetFault>
     requires { R.values into.old ≡ [] }
     ensures { MatchResult result (λ u. walked R.read 0 [] (cut 10 text.now) ≡ Ok (R.values into.new)) (λ e. walked R.read 0 [] (cut 10 text.now) ≡ Err e) }
 {
-    // Not by `slice::split`, which also yields what follows the last line's end, and that is no line.
+    // Neither by `slice::split`, which also yields what follows the last line's end, nor by `split_inclusive`, whose lines
+    // would have to lose their ends again.
     let mut rest = text;
     let mut k = 0;
     while !rest.is_empty() {

@@ -10,6 +10,7 @@ use crate::faults::SheetFault;
 fn digit_of(byte: u8) -> Option<u32>
     ensures { result ≡ (if digit byte then Some (byte - 48) else None) }
 {
+    // A byte taken as a char and matched against char literals is a form that the project fixes here.
     match byte as char {
         '0'..='9' => Some((byte - b'0') as u32),
         _ => None,
@@ -47,7 +48,8 @@ impl Numeral for u32 {
     fn read(text: &[u8]) -> Option<u32> {
         match text {
             [] => None,
-            [b'0', rest @ ..] => if rest.is_empty() { Some(0) } else { None },
+            [b'0'] => Some(0),
+            [b'0', ..] => None,
             [_, ..] => magnitude(text),
         }
     }
