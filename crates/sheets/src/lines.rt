@@ -59,8 +59,7 @@ pub fn walk<R: ReadsLines>(text: &[u8], into: &mut R) -> Result<(), SheetFault>
     requires { R.values into.old ≡ [] }
     ensures { MatchResult result (λ u. walked R.read 0 [] (cut 10 text.now) ≡ Ok (R.values into.new)) (λ e. walked R.read 0 [] (cut 10 text.now) ≡ Err e) }
 {
-    // Neither by `slice::split`, which also yields what follows the last line's end, nor by `split_inclusive`, whose lines
-    // would have to lose their ends again.
+    // `split` also yields what follows the last line's end; for `split_inclusive`, tried, no invariant could be stated.
     let mut rest = text;
     let mut k = 0;
     while !rest.is_empty() {

@@ -21,6 +21,7 @@ fn digit_of(byte: u8) -> Option<u32>
 fn magnitude(text: &[u8]) -> Option<u32>
     ensures { result ≡ (if digits text.now then Some (capped (value 0 text.now)) else None) }
 {
+    // Tried with `try_fold`, and the proof of the result did not close.
     let mut n: u32 = 0;
     for byte in text {
         let digit = digit_of(*byte)?;
