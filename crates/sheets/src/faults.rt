@@ -20,6 +20,7 @@ impl SheetFault {
     pub fn number(self) -> u8
         ensures { result ≡ fault_number self }
     {
+        // By hand, since cases carry a line, so no discriminant gives the number.
         match self {
             SheetFault::TooLong => 24,
             SheetFault::WrongNames => 20,
@@ -33,6 +34,7 @@ impl SheetFault {
     pub fn line(self) -> usize
         ensures { result ≡ fault_line self }
     {
+        // By hand, since only two of the cases carry a line.
         match self {
             SheetFault::TooLong => 0,
             SheetFault::WrongNames => 1,

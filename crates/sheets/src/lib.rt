@@ -1,5 +1,5 @@
-//! Sheets: profiles and schedules as text, read and written byte by byte. A sheet is a line of names, then lines of values
-//! in that order, each ended by byte 10.
+//! Sheets: profiles and schedules as text, read and written. A sheet is a line of names, then lines of values in that
+//! order, each ended by byte 10.
 #![tactic(auto)]
 
 pub mod decimals;

@@ -59,7 +59,7 @@ pub fn walk<R: ReadsLines>(text: &[u8], into: &mut R) -> Result<(), SheetFault>
     requires { R.values into.old ≡ [] }
     ensures { MatchResult result (λ u. walked R.read 0 [] (cut 10 text.now) ≡ Ok (R.values into.new)) (λ e. walked R.read 0 [] (cut 10 text.now) ≡ Err e) }
 {
-    // Not by `slice::split`, which also yields what follows the last line's end, and that is no line.
+    // `split` also yields what follows the last line's end; for `split_inclusive`, tried, no invariant could be stated.
     let mut rest = text;
     let mut k = 0;
     while !rest.is_empty() {

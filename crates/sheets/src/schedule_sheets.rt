@@ -37,6 +37,7 @@ fn four(line: &[u8]) -> Option<(&[u8], &[u8], &[u8], &[u8])>
 fn count_of(text: &[u8]) -> Option<TapCount>
     ensures { result ≡ counts text.now }
 {
+    // A byte taken as a char and matched against char literals is a form that the project fixes here.
     match text {
         [byte] => match *byte as char {
             '2' => Some(TapCount::Two),

@@ -10,6 +10,7 @@ use crate::faults::SheetFault;
 fn digit_of(byte: u8) -> Option<u32>
     ensures { result ≡ (if digit byte then Some (byte - 48) else None) }
 {
+    // A byte taken as a char and matched against char literals is a form that the project fixes here.
     match byte as char {
         '0'..='9' => Some((byte - b'0') as u32),
         _ => None,
@@ -20,6 +21,7 @@ fn digit_of(byte: u8) -> Option<u32>
 fn magnitude(text: &[u8]) -> Option<u32>
     ensures { result ≡ (if digits text.now then Some (capped (value 0 text.now)) else None) }
 {
+    // Tried with `try_fold`, and the proof of the result did not close.
     let mut n: u32 = 0;
     for byte in text {
         let digit = digit_of(*byte)?;
@@ -47,7 +49,8 @@ impl Numeral for u32 {
     fn read(text: &[u8]) -> Option<u32> {
         match text {
             [] => None,
-            [b'0', rest @ ..] => if rest.is_empty() { Some(0) } else { None },
+            [b'0'] => Some(0),
+            [b'0', ..] => None,
             [_, ..] => magnitude(text),
         }
     }

@@ -27,6 +27,7 @@ fn push_line(pass: Pass, sheet: &mut ArrayString<875>)
     ensures text { sheet.new.bytes ≡ sheet.old.bytes ++ (pass_line 0 pass ++ (10 ∷ [])) }
     ensures most { length sheet.new.bytes ≤ length sheet.old.bytes + 36 }
 {
+    // Tried with `write!`, of which no clause says that it succeeds where there is room, so the text stayed unproved.
     match pass {
         Pass::Pair(a, b) => {
             sheet.push_str("2,");
