@@ -1,5 +1,4 @@
 //! What an input asks for: two sheets, read and made ready.
-ghost use Rattle.std.specs.Prelude.{◌≡◌};
 ghost use Rattle.sheets.specs.Profiles.{profile_of};
 ghost use Rattle.sheets.specs.ScheduleSheets.{schedule_of};
 ghost use Rattle.command.specs.Asking.{together, asked, SetsOut};

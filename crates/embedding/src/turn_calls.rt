@@ -1,5 +1,5 @@
 //! The turns of all levels, for a tool.
-ghost use Rattle.std.specs.Prelude.{◌≡◌, ℕ, suc, ◌<◌, ◌≤◌, List, ◌++◌, length, drop, ℤ, slice_index};
+ghost use Rattle.std.specs.Prelude.{◌≡◌, ℕ, suc, ◌<◌, ◌≤◌, List, length, ℤ, slice_index};
 ghost use Rattle.scale_space.specs.declared.passes.Pass.{Pass};
 ghost use Rattle.levels.specs.Walks.{At};
 ghost use Rattle.sheets.specs.ScheduleSheets.{schedule_of};

@@ -1,5 +1,5 @@
 //! How a walk sets out and goes up.
-ghost use Rattle.std.specs.Prelude.{◌≡◌, ℕ, ◌+◌, ◌<◌, ◌≤◌, List, ℤ};
+ghost use Rattle.std.specs.Prelude.{ℕ, ◌+◌, ◌<◌, ◌≤◌, List, ℤ};
 ghost use Rattle.scale_space.specs.declared.passes.Pass.{Pass};
 ghost use Rattle.schedule.specs.Calls.{passes};
 ghost use Rattle.levels.specs.Walks.{At, SetOut, Stepped};
