@@ -12,6 +12,7 @@ use scale_space::turns::{Turn, TurnKind};
 use sheets::faults::SheetFault;
 
 /// The word of a kind, with the commas before and after it.
+// Bytes with their commas: a `Display` of the kind would only be a text to be copied.
 fn word(kind: TurnKind) -> &'static [u8]
     ensures bytes { result.now ≡ codes "," ++ (kind_word kind ++ codes ",") }
     ensures most { length result.now ≤ 8 }
