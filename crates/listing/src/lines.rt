@@ -24,6 +24,7 @@ fn word(kind: TurnKind) -> &'static [u8]
 }
 
 /// How many bytes the line of a turn has. The turn's numerator is its height.
+// Here and below the level's number goes beside the turns: a struct of both would be taken apart again for each line.
 fn line_size(level: usize, turn: Turn) -> usize
     ensures size { result ≡ length (height_line level turn) }
     ensures most { result ≤ 80 }
