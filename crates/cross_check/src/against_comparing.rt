@@ -12,7 +12,7 @@ const ROUNDS: u32 = 6000;
 const MOST_PAIRS: usize = 8;
 
 // All eight are drawn before their count, and a change among none draws too: a list of so many would alter the inputs.
-type Pairs = [(u32, u32); 8];
+type Pairs = [(u32, u32); MOST_PAIRS];
 
 pub fn run(heap: Global) -> Result<Tally, AllocError> {
     Bench::new(heap, 7, Tally::counting(heap, "compare", "equal")?).run(ROUNDS, two)
@@ -40,7 +40,7 @@ fn pair(generator: &mut Generator, most: u32) -> (u32, u32) {
 /// change, which mostly makes them different.
 fn alike(generator: &mut Generator) -> (Both, Both) {
     let most = generator.up_to(4).saturating_add(1);
-    let mut pairs = [(1, 1); 8];
+    let mut pairs = [(1, 1); MOST_PAIRS];
     for spot in pairs.iter_mut() {
         *spot = pair(generator, most);
     }

@@ -6,7 +6,6 @@ use crate::second::faults::{Answer, Fault};
 use crate::second::finding;
 use crate::second::finding::{crossings_answer, turns_answer};
 use crate::tally::Tally;
-use samples::refusals::Refusal;
 use samples::{crossings, turns};
 use scale_space::crossings::{Crossing, Direction};
 use scale_space::turns::{Turn, TurnKind};
@@ -34,6 +33,7 @@ pub fn run_crossings(heap: Global) -> Result<Tally, AllocError> {
     Bench::new(heap, 5, Tally::new(heap, "crossings")?).run(ROUNDS, compare_crossings)
 }
 
+// Not one function with `compare_crossings`: that one draws a scale and a height first, and hands them to all that it calls.
 fn compare_turns(bench: &mut Bench) -> Result<(), AllocError> {
     let samples = samples(&mut bench.generator, 0)?;
     let records = finding::turns(bench.heap(), &samples)?;

@@ -42,8 +42,7 @@ fn are_primes(records: &[PrimeCount]) -> bool {
 }
 
 fn are_in_order(records: &[PrimeCount]) -> bool {
-    records.iter().zip(records.iter().skip(1)).all(|(first, second)| Weights::from(first.prime)
-        < Weights::from(second.prime))
+    records.is_sorted_by(|first, second| Weights::from(first.prime) < Weights::from(second.prime))
 }
 
 fn total(records: &[PrimeCount]) -> u64 {

@@ -42,10 +42,10 @@ fn compare(bench: &mut Bench) -> Result<(), AllocError> {
     let generator = &mut bench.generator;
     let scale = scale(generator);
     let count = generator.place(9);
-    let mut numerators = Vec::new(heap);
-    for _ in 0..count {
-        numerators.push(numerator(generator, scale, 12))?;
-    }
+    let places = 0..count;
+    let numerators: Vec<i64> = places
+        .map(|_| numerator(generator, scale, 12))
+        .collect(heap)?;
     let room = room_for(generator, count);
     let mut out = marked(heap, room)?;
     let mut other = marked(heap, room)?;

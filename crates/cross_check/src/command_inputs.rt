@@ -93,6 +93,7 @@ fn odd(generator: &mut Generator) -> Result<Vec<u8>, AllocError> {
     )
 }
 
+// Not the `damaged` of `texts`: it draws in another order and from other bytes, and the draws pin what is printed.
 /// Good sheets of which one byte is changed, dropped or doubled, or the end is cut off.
 fn damaged(generator: &mut Generator) -> Result<Vec<u8>, AllocError> {
     let mut text = good(generator)?;

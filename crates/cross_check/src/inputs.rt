@@ -69,11 +69,9 @@ pub fn numbers(
     low: i64,
     high: i64,
 ) -> Result<Vec<i64>, AllocError> {
-    let mut numbers = Vec::new(generator.heap);
-    for _ in 0..count {
-        numbers.push(generator.between(low, high))?;
-    }
-    Ok(numbers)
+    let heap = generator.heap;
+    let places = 0..count;
+    places.map(|_| generator.between(low, high)).collect(heap)
 }
 
 /// A buffer that holds something of its own at each place, so that a place written, or left, is told apart.

@@ -33,6 +33,7 @@ fn expect(tally: &mut Tally, library: Answer, second: Answer, expected: Answer) 
     tally.hear(library, second, library == expected);
 }
 
+// Turns and crossings take the same steps: one function would be handed a table and both finders by each, no fewer lines.
 fn turns_of(
     heap: Global,
     tally: &mut Tally,

@@ -4,6 +4,7 @@ pub mod drawing;
 pub mod faults;
 pub mod finding;
 pub mod level_listing;
+pub mod limits;
 pub mod passes;
 pub mod prime_tables;
 pub mod reading;

@@ -43,6 +43,7 @@ impl Tally {
         })
     }
 
+    // `same` stands beside the answers: what else the calls leave behind, a schedule or a table, is no part of either answer.
     /// Takes the two answers to one input, and whether all else that the calls leave behind is the same.
     pub fn hear(&mut self, library: Answer, second: Answer, same: bool) {
         let refuses = library.is_err();

@@ -8,7 +8,7 @@ use std::error::Error;
 use std::{fmt, str};
 
 /// More than the sheet of any schedule has.
-const MOST_BYTES: usize = 512;
+const MOST_SCHEDULE_BYTES: usize = 512;
 
 /// A fault of a sheet, as the tour tells it.
 #[derive(Clone, Copy, Debug)]
@@ -38,7 +38,7 @@ impl Error for Refused {}
 
 /// Writes the schedule's sheet, shows it and reads it back; answers how many passes came back.
 fn there_and_back(rt: &impl Print, schedule: &Schedule) -> anyhow::Result<usize> {
-    let mut out = [0; MOST_BYTES];
+    let mut out = [0; MOST_SCHEDULE_BYTES];
     let bytes = write_schedule(schedule, &mut out).map_err(Refused::from)?;
     let sheet = out.get(0..bytes).unwrap_or(&[]);
     if let Ok(text) = str::from_utf8(sheet) {

@@ -1,12 +1,10 @@
 //! Drawing: all passes at once, as one list of taps laid on the profile.
 use crate::second::faults::{Answer, Fault};
+use crate::second::limits::{MOST_HEIGHT, MOST_HEIGHTS, any_beyond};
 use crate::second::schedules::PassList;
 use crate::second::taps::Taps;
 use std::alloc::Global;
 
-const MOST_HEIGHTS: usize = 2048;
-
-const MOST_HEIGHT: i64 = 100_000;
 /// The largest size of a sample times the scale of a smoother, 2^57.
 const MOST_WEIGHED: u128 = 144_115_188_075_855_872;
 
@@ -18,7 +16,7 @@ pub fn draw(heap: Global, list: &PassList, k: usize, profile: &[i64], work: &mut
     if profile.is_empty() || profile.len() > MOST_HEIGHTS {
         return Err(Fault::plain(7));
     }
-    if has_unlawful(profile) {
+    if any_beyond(profile, MOST_HEIGHT) {
         return Err(Fault::plain(8));
     }
     let taps = Taps::of_first(heap, list, k)?;
@@ -63,12 +61,7 @@ pub fn weigh(taps: &Taps, samples: &[i64]) -> Result<i128, Fault> {
     Ok(taps.laid_at(samples, 0))
 }
 
-fn has_unlawful(profile: &[i64]) -> bool {
-    profile
-        .iter()
-        .any(|height| *height > MOST_HEIGHT || *height < -MOST_HEIGHT)
-}
-
+// No `any_beyond`: its `most` would be a division here, of a scale that may be 0, and the limit is said of the product.
 fn has_heavy(samples: &[i64], scale: u128) -> bool {
     samples.iter().any(|sample| {
         u128::from(sample.unsigned_abs()).saturating_mul(scale) > MOST_WEIGHED

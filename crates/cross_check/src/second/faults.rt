@@ -4,7 +4,7 @@ use std::alloc::{AllocError, AllocFailed};
 /// A refusal's number, and its line for a sheet (0 where there is none).
 #[derive(Clone, Copy, PartialEq, Eq)]
 pub struct Fault {
-    // The number is what is compared and printed: an enum would only be written out as these numbers again.
+    // Compared and printed as they are, 0 for no line: an enum and an Option would only be written out as these again.
     pub number: u8,
     pub line: usize,
 }

@@ -1,11 +1,10 @@
 //! Turns and crossings: the samples are first made into flats, or those at the height dropped, and then looked at in threes
 //! and twos.
 use crate::second::faults::{Answer, Fault};
+use crate::second::limits::is_height;
 use crate::second::rounding::is_scale;
 use std::alloc::{AllocError, Global};
 use std::fmt;
-
-const MOST_HEIGHT: i64 = 100_000;
 
 /// A longest run of equal neighbours: where it begins, and what its samples are.
 #[derive(Clone, Copy)]
@@ -153,7 +152,7 @@ pub fn turns_answer(records: usize, room: usize) -> Answer {
 
 /// The answer for so many crossings of a height and so many table places.
 pub fn crossings_answer(scale: u64, height: i64, records: usize, room: usize) -> Answer {
-    if !is_scale(scale) || height > MOST_HEIGHT || height < -MOST_HEIGHT {
+    if !is_scale(scale) || !is_height(i128::from(height)) {
         return Err(Fault::plain(14));
     }
     turns_answer(records, room)

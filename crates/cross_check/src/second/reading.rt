@@ -1,13 +1,8 @@
 //! Reading sheets: the text is split into lines, a line into fields, and a field is read as a wide number.
 use crate::second::faults::{Answer, Fault};
+use crate::second::limits::{MOST_BYTES, MOST_HEIGHTS, is_height};
 use crate::second::schedules::PassList;
 use std::alloc::{AllocError, Global};
-
-const MOST_BYTES: usize = 32_768;
-
-const MOST_HEIGHTS: usize = 2048;
-
-const MOST_HEIGHT: i128 = 100_000;
 
 const SCHEDULE_NAMES: &[u8] = b"taps,a,b,c";
 
@@ -133,10 +128,10 @@ fn height_of(place: usize, fields: &[&[u8]]) -> Result<i64, Fault> {
 
 fn lawful_height(place: usize, station: i128, height: i128) -> Result<i64, Fault> {
     let next = usize::try_from(station) == Ok(place) && place < MOST_HEIGHTS;
-    if !next || height > MOST_HEIGHT || height < -MOST_HEIGHT {
+    if !next || !is_height(height) {
         return Err(refused());
     }
-    Ok(height as i64)
+    i64::try_from(height).map_err(|_| refused())
 }
 
 fn put_line(heap: Global, heights: &mut Vec<i64>, text: &[u8]) -> Result<(), Fault> {

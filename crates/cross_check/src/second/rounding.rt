@@ -1,9 +1,6 @@
 //! Rounding: floor division written out, with a case for each sign.
 use crate::second::faults::{Answer, Fault};
-
-const MOST_SCALE: u64 = 1_099_511_627_776;
-
-const MOST_HEIGHT: u128 = 100_000;
+use crate::second::limits::{MOST_HEIGHT, MOST_SCALE, any_beyond};
 
 pub fn is_scale(scale: u64) -> bool {
     scale >= 1 && scale <= MOST_SCALE
@@ -22,13 +19,6 @@ fn rounded(numerator: i64, scale: u64) -> i128 {
     floor(twice.saturating_add(scale), scale.saturating_mul(2))
 }
 
-fn has_large(numerators: &[i64], scale: u64) -> bool {
-    let most = u128::from(scale).saturating_mul(MOST_HEIGHT);
-    numerators
-        .iter()
-        .any(|numerator| u128::from(numerator.unsigned_abs()) > most)
-}
-
 pub fn round(numerators: &[i64], scale: u64, out: &mut [i64]) -> Answer {
     if !is_scale(scale) {
         return Err(Fault::plain(14));
@@ -36,7 +26,8 @@ pub fn round(numerators: &[i64], scale: u64, out: &mut [i64]) -> Answer {
     if out.len() < numerators.len() {
         return Err(Fault::plain(10));
     }
-    if has_large(numerators, scale) {
+    let most = u128::from(scale).saturating_mul(MOST_HEIGHT);
+    if any_beyond(numerators, most) {
         return Err(Fault::plain(12));
     }
     for (height, numerator) in out.iter_mut().zip(numerators.iter()) {

@@ -1,11 +1,10 @@
 //! Schedules as plain lists of passes.
 use crate::second::faults::{Answer, Fault};
+use crate::second::limits::MOST_SCALE;
 use crate::second::passes::{Weights, reduced_step};
 use std::alloc::Global;
 
 const MOST_PASSES: usize = 24;
-
-const MOST_SCALE: u128 = 1_099_511_627_776;
 
 #[derive(Clone, Drop)]
 pub struct PassList {
@@ -36,7 +35,7 @@ impl PassList {
         if self.len().saturating_add(more.len()) > MOST_PASSES {
             return Err(Fault::plain(5));
         }
-        if self.scale().saturating_mul(scale_of(more)) > MOST_SCALE {
+        if self.scale().saturating_mul(scale_of(more)) > u128::from(MOST_SCALE) {
             return Err(Fault::plain(6));
         }
         self.passes.extend_from_slice(more)?;

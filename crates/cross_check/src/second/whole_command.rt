@@ -1,13 +1,13 @@
 //! The whole command: the input is split into lines, the first empty one found, both sheets read, and each level listed.
 use crate::second::faults::{Answer, Fault};
 use crate::second::level_listing::level_text;
+use crate::second::limits::MOST_BYTES;
 use crate::second::reading::{heights, read_schedule};
 use crate::second::schedules::PassList;
 use crate::second::writing::write_text;
 use std::alloc::{AllocError, Global};
 use std::fmt;
 
-const MOST_BYTES: usize = 32_768;
 /// The room that the command asks for, whatever it has to print.
 pub const ROOM: usize = 1_178_200;
 
