@@ -12,24 +12,12 @@ const MOST_SCHEDULE_BYTES: usize = 512;
 
 /// A fault of a sheet, as the tour tells it.
 #[derive(Clone, Copy, Debug)]
-struct Refused {
-    number: u8,
-    line: usize,
-}
-
-impl From<SheetFault> for Refused {
-    fn from(fault: SheetFault) -> Refused {
-        Refused {
-            number: fault.number(),
-            line: fault.line(),
-        }
-    }
-}
+struct Refused(SheetFault);
 
 impl fmt::Display for Refused {
     fn fmt<W: fmt::Write>(&self, f: &mut fmt::Formatter<W>) -> fmt::Result {
-        let number = self.number;
-        let line = self.line;
+        let number = self.0.number();
+        let line = self.0.line();
         write!(f, "refused with {number} at line {line}")
     }
 }
@@ -39,13 +27,13 @@ impl Error for Refused {}
 /// Writes the schedule's sheet, shows it and reads it back; answers how many passes came back.
 fn there_and_back(rt: &impl Print, schedule: &Schedule) -> anyhow::Result<usize> {
     let mut out = [0; MOST_SCHEDULE_BYTES];
-    let bytes = write_schedule(schedule, &mut out).map_err(Refused::from)?;
+    let bytes = write_schedule(schedule, &mut out).map_err(Refused)?;
     let sheet = out.get(0..bytes).unwrap_or(&[]);
     if let Ok(text) = str::from_utf8(sheet) {
         print!(rt; "{text}")?;
     }
     let mut back = Schedule::new();
-    let count = read_schedule(sheet, &mut back).map_err(Refused::from)?;
+    let count = read_schedule(sheet, &mut back).map_err(Refused)?;
     if back == *schedule {
         println!(rt; "  {bytes} bytes written, {count} passes read back, the same")?;
     }
@@ -54,7 +42,7 @@ fn there_and_back(rt: &impl Print, schedule: &Schedule) -> anyhow::Result<usize>
 
 /// Shows what a sheet is refused with.
 fn show_fault(rt: &impl Print, name: &str, read: Result<usize, SheetFault>) -> anyhow::Result<()> {
-    if let Err(refused) = read.map_err(Refused::from) {
+    if let Err(refused) = read.map_err(Refused) {
         println!(rt; "  a {name} sheet is {refused}")?;
     }
     Ok(())
