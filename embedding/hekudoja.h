@@ -16,7 +16,7 @@
  *
  * A call that refuses writes nothing. One that goes well writes the front of its buffer and leaves the further places
  * as they were. No call allocates, keeps a pointer or touches a global, so that any thread may call at any time; it
- * should have 256 KB of stack left, of which the longest call, hek_answer, takes about 183.
+ * should have 256 KB of stack left, of which the longest call, hek_answer, takes about 119.
  *
  * Refusals, which each call looks for in the order in which it lists them:
  *
