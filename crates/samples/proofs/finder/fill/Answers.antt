@@ -1,7 +1,7 @@
 -- Each record that is read is the next of all.
 use Rattle.std.proofs.Common.{◌+◌, get_or, pos, arith, w64, SFits, rules}
 use Rattle.samples.proofs.Reading.{read_some, read_none, read_out}
-use Rattle.samples.proofs.Writing.{put_same, put_more, put_count, put_all}
+use Rattle.samples.proofs.Writing.{put_same, put_next, put_count, put_all}
 use Rattle.samples.proofs.finder.fill.Goals as goal
 use Rattle.samples.proofs.finder.fill.Goals.{in-Some, in_default}
 
@@ -17,7 +17,7 @@ loop-i-preserved g c =
           let e = read_some F G c.read.result _ xs i f c.loop-i-test.true c.read.ensures w.in-Some.is in
           record {
             few = omega (arith, w.found-is);
-            put = simp (w.table-is, w.found-is, w.put.ensures) (put_more _ _ _ _ _ _ _ c.loop-i.invariant.put e);
+            put = simp (w.table-is, w.found-is, w.put.ensures) (put_next _ _ _ _ _ _ _ c.loop-i.invariant.put e);
           }
       | in_default w ↦
           record {
