@@ -2,7 +2,7 @@
 use crate::bench::Bench;
 use crate::inputs::both;
 use crate::second::passes::Weights;
-use crate::second::prime_tables::{is_prime, piled};
+use crate::second::prime_tables::{comes_before, is_prime, piled};
 use crate::second::taps::Taps;
 use crate::tally::Tally;
 use primes::tables::PrimeTable;
@@ -42,7 +42,9 @@ fn are_primes(records: &[PrimeCount]) -> bool {
 }
 
 fn are_in_order(records: &[PrimeCount]) -> bool {
-    records.is_sorted_by(|first, second| Weights::from(first.prime) < Weights::from(second.prime))
+    records.is_sorted_by(|first, second| {
+        comes_before(&Weights::from(first.prime), &Weights::from(second.prime))
+    })
 }
 
 fn total(records: &[PrimeCount]) -> u64 {

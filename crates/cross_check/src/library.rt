@@ -52,6 +52,7 @@ impl From<Turn> for TurnRecord {
     fn from(turn: Turn) -> TurnRecord {
         TurnRecord {
             kind: Kind::from(turn.kind),
+            number: turn.kind.number(),
             place: turn.place,
             numerator: turn.numerator,
         }
@@ -73,6 +74,7 @@ impl From<Crossing> for CrossingRecord {
             from: crossing.from,
             to: crossing.to,
             way: Way::from(crossing.direction),
+            number: crossing.direction.number(),
         }
     }
 }

@@ -19,6 +19,15 @@ pub enum Kind {
     Hollow,
 }
 
+impl Kind {
+    pub fn number(self) -> u8 {
+        match self {
+            Kind::Ridge => 1,
+            Kind::Hollow => 2,
+        }
+    }
+}
+
 impl fmt::Display for Kind {
     fn fmt<W: fmt::Write>(&self, f: &mut fmt::Formatter<W>) -> fmt::Result {
         f.write_str(match self {
@@ -31,6 +40,8 @@ impl fmt::Display for Kind {
 #[derive(Clone, Copy, PartialEq, Eq)]
 pub struct TurnRecord {
     pub kind: Kind,
+    /// The number by which the kind is known outside.
+    pub number: u8,
     pub place: usize,
     pub numerator: i64,
 }
@@ -41,11 +52,22 @@ pub enum Way {
     Down,
 }
 
+impl Way {
+    pub fn number(self) -> u8 {
+        match self {
+            Way::Up => 1,
+            Way::Down => 2,
+        }
+    }
+}
+
 #[derive(Clone, Copy, PartialEq, Eq)]
 pub struct CrossingRecord {
     pub from: usize,
     pub to: usize,
     pub way: Way,
+    /// The number by which the direction is known outside.
+    pub number: u8,
 }
 
 /// A sample that is not at the height.
@@ -85,6 +107,7 @@ fn turn_of(three: &[Flat]) -> Option<TurnRecord> {
     let kind = kind_of(before.numerator, flat.numerator, after.numerator)?;
     Some(TurnRecord {
         kind,
+        number: kind.number(),
         place: flat.place,
         numerator: flat.numerator,
     })
@@ -126,6 +149,7 @@ fn crossing_of(two: &[Aside]) -> Option<CrossingRecord> {
         from: from.place,
         to: to.place,
         way,
+        number: way.number(),
     })
 }
 

@@ -3,8 +3,8 @@ use crate::second::faults::Fault;
 
 const MOST_WEIGHT: u64 = 1000;
 
-/// The weights of a pass. Pairs come before triples, then the smaller weights, the first one first.
-#[derive(Clone, Copy, PartialEq, Eq, PartialOrd, Ord)]
+/// The weights of a pass.
+#[derive(Clone, Copy, PartialEq, Eq)]
 pub enum Weights {
     Pair([u64; 2]),
     Triple([u64; 3]),

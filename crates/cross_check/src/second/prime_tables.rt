@@ -21,6 +21,25 @@ pub fn is_prime(pass: &Weights) -> bool {
     pass.reduced() == Ok(*pass) && !splits(pass)
 }
 
+fn rank(pass: &Weights) -> (usize, u64, u64, u64) {
+    match *pass {
+        Weights::Pair(weights) => {
+            let [a, b] = weights;
+            (2, a, b, 0)
+        }
+        Weights::Triple(weights) => {
+            let [a, b, c] = weights;
+            (3, a, b, c)
+        }
+    }
+}
+
+/// Pairs come before triples, then the smaller weights, the first one first.
+// Not derived, as the library's order of passes is.
+pub fn comes_before(first: &Weights, second: &Weights) -> bool {
+    rank(first) < rank(second)
+}
+
 /// The taps with a prime piled on, so many times.
 pub fn piled(taps: Taps, prime: &Weights, times: u32) -> Result<Taps, AllocError> {
     let one = Taps::of_pass(taps.heap(), prime)?;
