@@ -69,6 +69,10 @@ pub fn write_schedule(schedule: &Schedule, out: &mut [u8]) -> Result<usize, Shee
     ensures back { IfOk result (λ n. schedule_of (take n out.new) ≡ Ok (standing schedule.now)) }
     ensures exact { ExactSchedule }
 {
+    // The names take 11 bytes, and the marks of a line 5: where these alone have no room, nothing is made.
+    if out.len() < 11 + 5 * schedule.len() {
+        return Err(SheetFault::BufferTooShort);
+    }
     let sheet = sheet_of(schedule.as_slice());
     put_in_front(sheet.as_str().as_bytes(), out)
 }

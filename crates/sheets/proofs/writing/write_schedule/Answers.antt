@@ -1,10 +1,20 @@
 -- The theorems beside the writing.
-use Rattle.std.proofs.Common.{◌≡◌, Ok, ap, ◌∙◌}
+use Rattle.std.proofs.Common.{◌≡◌, Ok, sym, ap, ◌∙◌, arith}
 use Rattle.schedule.specs.Calls.{passes}
 use Rattle.sheets.specs.Lines.{answer}
 use Rattle.sheets.specs.ScheduleSheets.{schedule_sheet}
 use Rattle.sheets.proofs.ExactSchedules.{exact_schedule, read_back}
+use Rattle.sheets.proofs.Filling.{no_room}
 use Rattle.sheets.proofs.writing.write_schedule.Goals as goal
+
+pub returns-then-out-len-clause-answers : goal.returns-then-out-len-clause-answers
+returns-then-out-len-clause-answers c = λ j. (sym (no_room (passes c.args.schedule.now) c.args.out.now (omega (arith, c.if-out-len.true, c.len.ensures))) j).0
+
+pub returns-then-out-len-clause-writes : goal.returns-then-out-len-clause-writes
+returns-then-out-len-clause-writes c = λ j. (sym (no_room (passes c.args.schedule.now) c.args.out.now (omega (arith, c.if-out-len.true, c.len.ensures))) j).1
+
+pub returns-then-out-len-clause-exact : goal.returns-then-out-len-clause-exact
+returns-then-out-len-clause-exact c = exact_schedule
 
 pub returns : goal.returns
 returns c =

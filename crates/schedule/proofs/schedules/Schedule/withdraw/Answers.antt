@@ -7,4 +7,4 @@ use Rattle.schedule.proofs.schedules.Schedule.withdraw.Goals as goal
 pub invariant_of-self : goal.invariant_of-self
 invariant_of-self c =
     let s = c.args.self.now in
-    held _ _ c.remove.ensures (standing_removed (passes s) c.args.place (omega arith) (standing s))
+    held _ _ c.remove.ensures (standing_removed (passes s) _ (omega arith) (standing s))
